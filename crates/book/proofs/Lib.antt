@@ -1,0 +1,4 @@
+pub mod Apart
+pub mod Below
+pub mod Keys
+pub mod Parts

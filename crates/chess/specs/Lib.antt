@@ -1,0 +1,4 @@
+pub mod Asking
+pub mod Rules
+pub mod Page
+pub mod Kept
