@@ -2,3 +2,4 @@ pub mod Apart
 pub mod Below
 pub mod Keys
 pub mod Parts
+pub mod Tables

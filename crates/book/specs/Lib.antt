@@ -2,3 +2,4 @@ pub mod Model
 pub mod Apart
 pub mod Below
 pub mod Sheets
+pub mod Numbers

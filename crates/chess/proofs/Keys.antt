@@ -7,12 +7,13 @@ use mathlib.Core.Path.{_≡_, refl, sym, subst, _∙_}
 use native.Mathlib.Omega.{arith}
 use Rattle.book.proofs.Keys.{Held, held-one, held-below, held-once}
 use Rattle.book.specs.Model.{Disjoint}
+use Rattle.book.specs.Numbers.{natural}
 use Rattle.chess.proofs.Parts.{reads, writes}
-use Rattle.chess.specs.Asking.{natural, player, outcome, asked-seat, at-board, of-board, asked, keys, Within}
+use Rattle.chess.specs.Asking.{player, outcome, asked-seat, at-board, of-board, asked, keys, Within}
 use Rattle.chess.specs.Page.{chess-model}
 use Rattle.chess.specs.declared.asking.Ask.{Ask}
 use Rattle.chess.specs.declared.asking.Ask.the-variants.{Seat, Enter, Read, Close, Total, Refuse}
-use Rattle.chess.specs.declared.asking.Fault.the-variants.{BadPlayer, UnknownKind}
+use Rattle.rounds.specs.declared.Fault.the-variants.{NoParty, UnknownKind}
 use Rattle.chess.specs.declared.sheet.Outcome.{Outcome}
 use Rattle.records.specs.declared.Operation.{Operation}
 use Rattle.std.proofs.shelf.Tests.{cond-true, cond-false, cond-both, and-parts, leb-true, lt-ltb, eqb-true, or-cases, not-true, false≢true}
@@ -39,7 +40,7 @@ within o =
     (λ _. cond-both (eqb (o .kind) 19) (Close (o .a)) _ Within
     (λ _. tt)
     (λ _. cond-both (eqb (o .kind) 20) _ (Refuse UnknownKind) Within
-    (λ _. cond-both (player (o .a)) (Total (o .a)) (Refuse BadPlayer) Within (player-range (o .a)) (λ _. tt))
+    (λ _. cond-both (player (o .a)) (Total (o .a)) (Refuse NoParty) Within (player-range (o .a)) (λ _. tt))
     (λ _. tt)))
 
 within-is : (o : Operation) (x : Ask) → asked o ≡ x → Within x

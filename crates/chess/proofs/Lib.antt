@@ -4,4 +4,3 @@ pub mod Parts
 pub mod Keys
 pub mod Laws
 pub mod Kept
-pub mod Table

@@ -8,9 +8,10 @@ use native.Mathlib.Numerals.{one-add}
 use native.Mathlib.Omega.{arith}
 use Rattle.book.proofs.Below.{getD-table, table-all, length-rows, getD-rows}
 use Rattle.book.specs.Below.{table, rows}
-use Rattle.chess.specs.Asking.{natural, outcome}
+use Rattle.book.specs.Numbers.{natural, at}
+use Rattle.chess.specs.Asking.{outcome}
 use Rattle.chess.specs.Kept.{Sized}
-use Rattle.chess.specs.Page.{board-numbers, write, at, board-from, read-board, read}
+use Rattle.chess.specs.Page.{board-numbers, write, board-from, read-board, read}
 use Rattle.chess.specs.Rules.{board, result-number}
 use Rattle.chess.specs.declared.sheet.Board.{Board}
 use Rattle.chess.specs.declared.sheet.Board.the-variants.{Empty, Seated}

@@ -14,7 +14,7 @@ use Rattle.chess.specs.Kept.{Sized}
 use Rattle.chess.specs.Rules.{board, with-board, new-game, with-result, seat-says, enter-says, read-says, says, changed, left}
 use Rattle.chess.specs.declared.asking.Ask.{Ask}
 use Rattle.chess.specs.declared.asking.Ask.the-variants.{Seat, Enter, Read, Close, Total, Refuse}
-use Rattle.chess.specs.declared.asking.Fault.{Fault}
+use Rattle.rounds.specs.declared.Fault.{Fault}
 use Rattle.chess.specs.declared.sheet.Board.{Board}
 use Rattle.chess.specs.declared.sheet.Board.the-variants.{Empty}
 use Rattle.chess.specs.declared.sheet.Sheet.{Sheet}

@@ -10,9 +10,10 @@ use Rattle.chess.specs.Page.{read, no-points, blank}
 use Rattle.chess.specs.Rules.{with-result, new-game, board, no-games, says, changed, left, after}
 use Rattle.chess.specs.declared.asking.Ask.{Ask}
 use Rattle.chess.specs.declared.asking.Ask.the-variants.{Seat, Enter, Read, Close, Total, Refuse}
-use Rattle.chess.specs.declared.asking.Fault.{Fault}
+use Rattle.rounds.specs.declared.Fault.{Fault}
 use Rattle.chess.specs.declared.sheet.Sheet.{Sheet}
 use Rattle.records.specs.declared.Operation.{Operation}
+use Rattle.rounds.proofs.Totals.{length-raised}
 use Rattle.std.specs.declared.result.Result.{Result}
 use Rattle.std.specs.declared.result.Result.the-variants.{Ok, Err}
 
@@ -31,7 +32,7 @@ sized-changed : (s : Sheet) (x : Ask) → Sized s → Sized (changed s x)
 sized-changed s (Seat a white black) h = (length-set (s .boards) a (new-game white black) ∙ h .0, h .1)
 sized-changed s (Enter a round result) h = (length-set (s .boards) a (with-result (board s a) result) ∙ h .0, h .1)
 sized-changed s (Read a) h = h
-sized-changed s (Close round) h = (no-games-sized, length-table 64 _)
+sized-changed s (Close round) h = (no-games-sized, length-raised (s .totals) _ ∙ h .1)
 sized-changed s (Total n) h = h
 sized-changed s (Refuse fault) h = h
 

@@ -1,34 +1,19 @@
 -- What an operation asks of the book of chess, as far as its own numbers tell, and its keys.
 use Prim.Native.Nat.{ℕ, _-_, _^_, _<_, _≤_}
 use lib.Dec.{leb, eqb}
-use lib.IntN.{ℤ, pos, negsuc}
+use lib.IntN.{ℤ}
 use mathlib.Core.Bool.{Bool, cond, not, _&&_, _||_}
+use Rattle.book.specs.Numbers.{natural}
 use Rattle.chess.specs.declared.asking.Ask.{Ask}
 use Rattle.chess.specs.declared.asking.Ask.the-variants.{Seat, Enter, Read, Close, Total, Refuse}
-use Rattle.chess.specs.declared.asking.Fault.{Fault}
-use Rattle.chess.specs.declared.asking.Fault.the-variants.{NoBoard, BadPlayer, HasResult, Nobody, OtherRound, BadResult, NotClosable, UnknownKind}
 use Rattle.chess.specs.declared.sheet.Outcome.{Outcome}
 use Rattle.chess.specs.declared.sheet.Outcome.the-variants.{White, Draw, Black}
 use Rattle.records.specs.declared.Operation.{Operation}
+use Rattle.rounds.specs.declared.Fault.the-variants.{NoPlace, NoParty, UnknownKind}
 use Rattle.std.specs.declared.option.Option.{Option}
 use Rattle.std.specs.declared.option.Option.the-variants.{Some, None}
 
--- the cause of each fault
-abbrev pub fault-number : Fault → ℕ
-fault-number NoBoard = 1
-fault-number BadPlayer = 2
-fault-number HasResult = 3
-fault-number Nobody = 4
-fault-number OtherRound = 5
-fault-number BadResult = 6
-fault-number NotClosable = 7
-fault-number UnknownKind = 9
-
--- c where it is not negative; 0 is no player and no result
-abbrev pub natural : ℤ → ℕ
-natural (pos n) = n
-natural (negsuc n) = 0
-
+-- 0 is no player, and a negative number neither
 abbrev pub player : ℕ → Bool
 player n = leb 1 n && leb n 64
 
@@ -40,7 +25,7 @@ abbrev pub asked-seat : Operation → Ask
 asked-seat o =
     cond (player (o .b) && (player (natural (o .c)) && not (eqb (o .b) (natural (o .c)))))
     (Seat (o .a) (o .b) (natural (o .c)))
-    (Refuse BadPlayer)
+    (Refuse NoParty)
 
 -- kinds 16 to 18 are asked of board a
 abbrev pub at-board : Operation → Ask
@@ -49,7 +34,7 @@ at-board o =
     (cond (eqb (o .kind) 16) (asked-seat o)
     (cond (eqb (o .kind) 17) (Enter (o .a) (o .b) (outcome (o .c)))
     (Read (o .a))))
-    (Refuse NoBoard)
+    (Refuse NoPlace)
 
 abbrev pub of-board : Operation → Bool
 of-board o = leb 16 (o .kind) && leb (o .kind) 18
@@ -58,7 +43,7 @@ abbrev pub asked : Operation → Ask
 asked o =
     cond (of-board o) (at-board o)
     (cond (eqb (o .kind) 19) (Close (o .a))
-    (cond (eqb (o .kind) 20) (cond (player (o .a)) (Total (o .a)) (Refuse BadPlayer))
+    (cond (eqb (o .kind) 20) (cond (player (o .a)) (Total (o .a)) (Refuse NoParty))
     (Refuse UnknownKind)))
 
 -- each board has its own key, key 32 is the totals', and closing takes them all

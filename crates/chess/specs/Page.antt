@@ -8,8 +8,9 @@ use mathlib.Core.Bool.{cond}
 use mathlib.Core.List.{List, [], _∷_, _++_}
 use Rattle.book.specs.Below.{table, rows}
 use Rattle.book.specs.Model.{Page, Model}
+use Rattle.book.specs.Numbers.{natural, at}
 use Rattle.book.specs.Sheets.{Sheets, sheet-model}
-use Rattle.chess.specs.Asking.{natural, outcome, keys}
+use Rattle.chess.specs.Asking.{outcome, keys}
 use Rattle.chess.specs.Rules.{board, result-number, no-games, answer, after}
 use Rattle.chess.specs.declared.sheet.Board.{Board}
 use Rattle.chess.specs.declared.sheet.Board.the-variants.{Empty, Seated}
@@ -21,10 +22,6 @@ board-numbers (Seated g) = pos 1 ∷ pos (g .white) ∷ pos (g .black) ∷ pos (
 
 abbrev pub write : Sheet → Page
 write s = pos (s .round) ∷ (rows 32 (λ a. board-numbers (board s a)) ++ table 64 (λ i. pos (getD (s .totals) i 0)))
-
--- number i of a page
-abbrev pub at : Page → ℕ → ℤ
-at p i = getD p i (pos 0)
 
 abbrev pub board-from : ℤ → ℤ → ℤ → ℤ → Board
 board-from there white black result =

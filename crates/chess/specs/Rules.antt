@@ -1,25 +1,26 @@
 -- What each operation answers and makes of the sheet of a hall.
 use Prim.Native.Nat.{ℕ, _+_, _-_}
-use lib.Dec.{leb, eqb}
+use lib.Dec.{eqb}
 use lib.IntN.{ℤ, pos}
 use lib.ListN.{getD, set, replicate}
 use mathlib.Core.Bool.{Bool, true, false, cond, _&&_}
 use mathlib.Core.List.{List}
-use Rattle.book.specs.Below.{sum-below, some-below, all-below, table}
-use Rattle.chess.specs.Asking.{fault-number, asked}
+use Rattle.book.specs.Below.{sum-below, some-below, all-below}
+use Rattle.chess.specs.Asking.{asked}
 use Rattle.chess.specs.declared.asking.Ask.{Ask}
 use Rattle.chess.specs.declared.asking.Ask.the-variants.{Seat, Enter, Read, Close, Total, Refuse}
-use Rattle.chess.specs.declared.asking.Fault.{Fault}
-use Rattle.chess.specs.declared.asking.Fault.the-variants.{HasResult, Nobody, OtherRound, BadResult, NotClosable}
 use Rattle.chess.specs.declared.sheet.Board.{Board}
 use Rattle.chess.specs.declared.sheet.Board.the-variants.{Empty, Seated}
 use Rattle.chess.specs.declared.sheet.Game.{Game}
 use Rattle.chess.specs.declared.sheet.Outcome.{Outcome}
 use Rattle.chess.specs.declared.sheet.Outcome.the-variants.{White, Draw, Black}
 use Rattle.chess.specs.declared.sheet.Sheet.{Sheet}
-use Rattle.records.specs.Answers.{done-with, fault-at}
 use Rattle.records.specs.declared.Answer.{Answer}
 use Rattle.records.specs.declared.Operation.{Operation}
+use Rattle.rounds.specs.Faults.{answered}
+use Rattle.rounds.specs.Rounds.{in-turn, raised}
+use Rattle.rounds.specs.declared.Fault.{Fault}
+use Rattle.rounds.specs.declared.Fault.the-variants.{HasResult, Nothing, OtherRound, BadResult, NotClosable}
 use Rattle.std.specs.declared.option.Option.{Option}
 use Rattle.std.specs.declared.option.Option.the-variants.{Some, None}
 use Rattle.std.specs.declared.result.Result.{Result}
@@ -51,7 +52,7 @@ new-game white black = Seated (record { white = white; black = black; result = N
 
 -- Entering a result for a round: the answer is the result before.
 abbrev pub enter-says : Board → ℕ → ℕ → Option Outcome → Result ℤ Fault
-enter-says Empty current round result = Err Nobody
+enter-says Empty current round result = Err Nothing
 enter-says (Seated g) current round result =
     cond (eqb round current)
     (elim result [ None ↦ Err BadResult | Some r ↦ Ok (pos (result-number (g .result))) ])
@@ -63,7 +64,7 @@ with-result (Seated g) result = Seated (record { white = g .white; black = g .bl
 
 -- Reading a result.
 abbrev pub read-says : Board → Result ℤ Fault
-read-says Empty = Err Nobody
+read-says Empty = Err Nothing
 read-says (Seated g) = Ok (pos (result-number (g .result)))
 
 -- Closing a round: some board is seated, and every seated board has a result.
@@ -82,7 +83,7 @@ abbrev pub finished-at : Sheet → ℕ → Bool
 finished-at s a = finished (board s a)
 
 abbrev pub closable : Sheet → ℕ → Bool
-closable s round = eqb round (s .round) && (leb round 99 && (some-below 32 (seated-at s) && all-below 32 (finished-at s)))
+closable s round = in-turn (s .round) round && (some-below 32 (seated-at s) && all-below 32 (finished-at s))
 
 -- a win is 2 half points, a draw 1, a loss 0
 abbrev pub white-points : Option Outcome → ℕ
@@ -108,15 +109,11 @@ gain-at boards n a = gain n (getD boards a Empty)
 abbrev pub gained : List Board → ℕ → ℕ
 gained boards n = sum-below 32 (gain-at boards n)
 
--- the totals with what each player gained
-abbrev pub raised : List ℕ → List Board → List ℕ
-raised totals boards = table 64 (λ i. getD totals i 0 + gained boards (i + 1))
-
 unfoldable pub no-games : List Board
 no-games = replicate 32 Empty
 
 abbrev pub closed : Sheet → Sheet
-closed s = record { round = s .round + 1; boards = no-games; totals = raised (s .totals) (s .boards) }
+closed s = record { round = s .round + 1; boards = no-games; totals = raised (s .totals) (λ i. gained (s .boards) (i + 1)) }
 
 -- The value of what is well done, or why it is not done.
 abbrev pub says : Sheet → Ask → Result ℤ Fault
@@ -141,14 +138,9 @@ abbrev pub left : Sheet → Ask → Result ℤ Fault → Sheet
 left s ask (Ok value) = changed s ask
 left s ask (Err fault) = s
 
--- every fault has a as its place
-abbrev pub answered : Result ℤ Fault → ℕ → Answer
-answered (Ok value) a = done-with 1 value
-answered (Err fault) a = fault-at 1 (fault-number fault) a
-
 -- What an operation answers, and the sheet after it.
 abbrev pub answer : Sheet → Operation → Answer
-answer s o = answered (says s (asked o)) (o .a)
+answer s o = answered 1 (says s (asked o)) (o .a)
 
 abbrev pub after : Sheet → Operation → Sheet
 after s o = left s (asked o) (says s (asked o))

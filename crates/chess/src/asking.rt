@@ -1,11 +1,13 @@
 // What an operation asks of the book of chess, as far as its own numbers tell.
 ghost use Prim.Native.Nat.{_<_};
 ghost use mathlib.Core.Path.{_≡_};
-ghost use Rattle.chess.specs.Asking.{fault-number, natural as natural-part, player, outcome, asked-seat, at-board, asked, Within, keys as keys-needed};
+ghost use Rattle.book.specs.Numbers.{natural as natural-part};
+ghost use Rattle.chess.specs.Asking.{player, outcome, asked-seat, at-board, asked, Within, keys as keys-needed};
 use super::sheet::BOARDS;
 use super::sheet::Outcome;
 use super::sheet::PLAYERS;
 use records::Operation;
+use rounds::Fault;
 
 pub const SEAT: u8 = 16;
 
@@ -16,37 +18,6 @@ pub const READ: u8 = 18;
 pub const CLOSE: u8 = 19;
 
 pub const TOTAL: u8 = 20;
-
-// Why an operation is not done.
-#[derive(Clone, Copy)]
-pub enum Fault {
-    NoBoard,
-    BadPlayer,
-    HasResult,
-    Nobody,
-    OtherRound,
-    BadResult,
-    NotClosable,
-    UnknownKind,
-}
-
-impl Fault {
-    // Its cause in an answer.
-    pub(crate) fn number(self) -> u8
-        ensures { λ r. ⌜ r ≡ fault-number self ⌝ }
-    {
-        match self {
-            Fault::NoBoard => 1,
-            Fault::BadPlayer => 2,
-            Fault::HasResult => 3,
-            Fault::Nobody => 4,
-            Fault::OtherRound => 5,
-            Fault::BadResult => 6,
-            Fault::NotClosable => 7,
-            Fault::UnknownKind => 9,
-        }
-    }
-}
 
 #[derive(Clone, Copy)]
 pub enum Ask {
@@ -96,7 +67,7 @@ fn ask_seat(op: Operation) -> Ask
     let white = usize::from(op.b);
     let black = natural(op.c);
     if !is_player(white) || !is_player(black) || white == black {
-        return Ask::Refuse(Fault::BadPlayer);
+        return Ask::Refuse(Fault::NoParty);
     }
     Ask::Seat(op.a as u8, white as u8, black as u8)
 }
@@ -112,7 +83,7 @@ pub(crate) fn ask_of(op: Operation) -> Ask
             if is_player(usize::from(op.a)) {
                 Ask::Total(op.a as u8)
             } else {
-                Ask::Refuse(Fault::BadPlayer)
+                Ask::Refuse(Fault::NoParty)
             }
         }
         _ => Ask::Refuse(Fault::UnknownKind),
@@ -125,7 +96,7 @@ fn ask_of_board(op: Operation) -> Ask
     ensures within { λ r. ⌜ Within r ⌝ }
 {
     if usize::from(op.a) >= BOARDS {
-        return Ask::Refuse(Fault::NoBoard);
+        return Ask::Refuse(Fault::NoPlace);
     }
     match op.kind {
         SEAT => ask_seat(op),

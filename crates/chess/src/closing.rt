@@ -1,17 +1,15 @@
 // Closing a round: when it may be closed, what each player gained, and the sheet of the next round.
-ghost use Prim.Native.Nat.{ℕ, _+_, _≤_};
-ghost use lib.ListN.{getD};
+ghost use Prim.Native.Nat.{_+_, _≤_};
 ghost use mathlib.Core.Path.{_≡_};
 ghost use Rattle.book.specs.Below.{some-below, all-below};
-ghost use Rattle.chess.specs.Kept.{Small};
-ghost use Rattle.chess.specs.Rules.{seated-at, finished-at, gained, raised, no-games, closable, closed};
+ghost use Rattle.chess.specs.Rules.{seated-at, finished-at, gained, no-games, closable, closed};
+ghost use Rattle.rounds.specs.Rounds.{Small};
 use super::sheet::BOARDS;
 use super::sheet::Board;
-use super::sheet::PLAYERS;
 use super::sheet::Sheet;
-
-// The last round that can be closed.
-const LAST_ROUND: u16 = 99;
+use rounds::Gains;
+use rounds::is_in_turn;
+use rounds::raise;
 
 // The half points that a player gained at all boards.
 fn gained_at(boards: &[Board; BOARDS], player: usize) -> u32
@@ -25,13 +23,11 @@ fn gained_at(boards: &[Board; BOARDS], player: usize) -> u32
     sum
 }
 
-// Adds to each total what its player gained.
-fn raise(totals: &mut [u32; PLAYERS], boards: &[Board; BOARDS])
-    requires { ⌜ ((i : ℕ) → getD (now totals) i 0 ≤ 1000000000) ⌝ }
-    ensures { λ _. ⌜ now (totals .exit) ≡ raised (now (totals .entry)) (now (boards .entry)) ⌝ }
-{
-    for i in 0..PLAYERS {
-        totals[i] += gained_at(boards, i + 1);
+impl Gains for Sheet as SheetGains {
+    ghost gain = { λ s i. gained (s .boards) (i + 1) };
+
+    fn gained(&self, i: usize) -> u32 {
+        gained_at(&self.boards, i + 1)
     }
 }
 
@@ -68,14 +64,16 @@ impl Sheet {
     pub(crate) fn is_closable(&self, round: u16) -> bool
         ensures { λ r. ⌜ r ≡ closable (now (self .entry)) round ⌝ }
     {
-        round == self.round && round <= LAST_ROUND && self.some_seated() && self.all_finished()
+        is_in_turn(self.round, round) && self.some_seated() && self.all_finished()
     }
 
     pub(crate) fn close(&mut self)
-        requires { ⌜ now self .round ≤ 99 ⌝ ∗ ⌜ Small (now self) ⌝ }
+        requires { ⌜ now self .round ≤ 99 ⌝ ∗ ⌜ Small (now self .round) (now self .totals) ⌝ }
         ensures { λ _. ⌜ now (self .exit) ≡ closed (now (self .entry)) ⌝ }
     {
-        raise(&mut self.totals, &self.boards);
+        let mut totals = self.totals;
+        raise(&mut totals, self.round, self);
+        self.totals = totals;
         self.boards = no_games();
         self.round += 1;
     }

@@ -3,11 +3,10 @@ ghost use Prim.Native.Nat.{_≤_};
 ghost use mathlib.Core.Bool.{true};
 ghost use mathlib.Core.Path.{_≡_};
 ghost use Rattle.chess.specs.Asking.{Within};
-ghost use Rattle.chess.specs.Kept.{Small};
-ghost use Rattle.chess.specs.Rules.{result-number, seat-says, enter-says, with-result, read-says, seated, finished, white-points, black-points, gain, says, changed, answered, answer, after};
+ghost use Rattle.chess.specs.Rules.{result-number, seat-says, enter-says, with-result, read-says, seated, finished, white-points, black-points, gain, says, changed, answer, after};
+ghost use Rattle.rounds.specs.Rounds.{Small};
 ghost use Rattle.std.specs.Results.{isOk};
 use super::asking::Ask;
-use super::asking::Fault;
 use super::asking::ask_of;
 use super::sheet::Board;
 use super::sheet::Game;
@@ -15,6 +14,8 @@ use super::sheet::Outcome;
 use super::sheet::Sheet;
 use records::Answer;
 use records::Operation;
+use rounds::Fault;
+use rounds::answer_with;
 
 // The layer of this book's answers.
 pub const LAYER: u8 = 1;
@@ -83,7 +84,7 @@ impl Board {
         ensures { λ r. ⌜ r ≡ enter-says self current round result ⌝ }
     {
         let Board::Seated(game) = self else {
-            return Err(Fault::Nobody);
+            return Err(Fault::Nothing);
         };
         if round != current {
             return Err(Fault::OtherRound);
@@ -98,7 +99,7 @@ impl Board {
         ensures { λ r. ⌜ r ≡ read-says self ⌝ }
     {
         match self {
-            Board::Empty => Err(Fault::Nobody),
+            Board::Empty => Err(Fault::Nothing),
             Board::Seated(game) => Ok(i32::from(number_of(game.result))),
         }
     }
@@ -135,7 +136,7 @@ impl Sheet {
     // The value of what would be well done, or why it is not done.
     fn say(&self, ask: Ask) -> Result<i32, Fault>
         requires within { ⌜ Within ask ⌝ }
-        requires small { ⌜ Small (now self) ⌝ }
+        requires small { ⌜ Small (now self .round) (now self .totals) ⌝ }
         ensures { λ r. ⌜ r ≡ says (now (self .entry)) ask ⌝ }
     {
         match ask {
@@ -158,7 +159,7 @@ impl Sheet {
     // Makes the change of what is well done.
     fn change(&mut self, ask: Ask)
         requires within { ⌜ Within ask ⌝ }
-        requires small { ⌜ Small (now self) ⌝ }
+        requires small { ⌜ Small (now self .round) (now self .totals) ⌝ }
         requires done { ⌜ isOk (says (now self) ask) ≡ true ⌝ }
         ensures { λ _. ⌜ now (self .exit) ≡ changed (now (self .entry)) ask ⌝ }
     {
@@ -179,14 +180,14 @@ impl Sheet {
     }
 
     pub(crate) fn verdict(&self, op: Operation) -> Answer
-        requires { ⌜ Small (now self) ⌝ }
+        requires { ⌜ Small (now self .round) (now self .totals) ⌝ }
         ensures { λ r. ⌜ r ≡ answer (now (self .entry)) op ⌝ }
     {
-        answer_with(self.say(ask_of(op)), op.a)
+        answer_with(LAYER, self.say(ask_of(op)), op.a)
     }
 
     pub(crate) fn run(&mut self, op: Operation) -> Answer
-        requires { ⌜ Small (now self) ⌝ }
+        requires { ⌜ Small (now self .round) (now self .totals) ⌝ }
         ensures answer { λ r. ⌜ r ≡ answer (now (self .entry)) op ⌝ }
         ensures after { λ _. ⌜ now (self .exit) ≡ after (now (self .entry)) op ⌝ }
     {
@@ -195,16 +196,6 @@ impl Sheet {
         if said.is_ok() {
             self.change(ask);
         }
-        answer_with(said, op.a)
-    }
-}
-
-// The answer to an operation whose number a is `place`.
-fn answer_with(said: Result<i32, Fault>, place: u16) -> Answer
-    ensures { λ r. ⌜ r ≡ answered said place ⌝ }
-{
-    match said {
-        Ok(value) => Answer::done(LAYER, value),
-        Err(fault) => Answer::fault(LAYER, fault.number(), place),
+        answer_with(LAYER, said, op.a)
     }
 }

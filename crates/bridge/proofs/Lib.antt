@@ -1,0 +1,6 @@
+pub mod Pages
+pub mod Sizes
+pub mod Parts
+pub mod Keys
+pub mod Laws
+pub mod Kept

@@ -1,0 +1,3 @@
+-- What the books of chess and bridge share.
+pub mod Faults
+pub mod Rounds
