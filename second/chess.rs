@@ -1,12 +1,10 @@
 //! The book of chess: its kinds, causes and results, and what an operation does to a hall's page
 //! (docs/RULES.md, "Chess").
 
-use crate::book::{self, Answer, Fault, Operation};
+use crate::book::{self, Answer, Fault, News, Operation, FIRST_ROUND, LAST_ROUND_TO_CLOSE};
 
 const BOARDS: usize = 32;
 const PLAYERS: usize = 64;
-const FIRST_ROUND: u16 = 1;
-const LAST_ROUND_TO_CLOSE: u16 = 99;
 
 #[derive(Clone, Copy)]
 #[repr(u8)]
@@ -50,9 +48,9 @@ pub enum Cause {
     NoSuchHall = 255,
 }
 
-impl Cause {
-    pub fn number(self) -> u8 {
-        self as u8
+impl book::Cause for Cause {
+    fn number(&self) -> u8 {
+        *self as u8
     }
 }
 
@@ -119,6 +117,16 @@ pub enum Done {
     Total(HalfPoints),
 }
 
+impl book::Done<Player> for Done {
+    fn news(&self) -> Option<News<Player>> {
+        match *self {
+            Self::Seated { white, black } => Some(News::TookPart([white, black])),
+            Self::Closed { next_round } => Some(News::RoundBegins(next_round)),
+            Self::Entered { .. } | Self::Shown(_) | Self::Total(_) => None,
+        }
+    }
+}
+
 #[derive(Clone, Copy)]
 struct Game {
     white: Player,
@@ -126,6 +134,7 @@ struct Game {
     outcome: Option<Outcome>,
 }
 
+#[derive(Clone)]
 pub struct Page {
     round: u16,
     boards: [Option<Game>; BOARDS],
@@ -143,12 +152,14 @@ impl Default for Page {
 }
 
 impl book::Page for Page {
+    type Party = Player;
+    type Points = HalfPoints;
     type Done = Done;
     type Cause = Cause;
     const NO_SUCH_HALL: Cause = Cause::NoSuchHall;
 
     fn run(&mut self, operation: Operation) -> Answer<Self> {
-        let Operation { kind, a, b, c } = operation;
+        let Operation { kind, a, b, c, .. } = operation;
         match Kind::from_number(kind) {
             Some(Kind::Seat) => self.seat(a, b, c),
             Some(Kind::Enter) => self.enter(a, b, c),
@@ -158,6 +169,10 @@ impl book::Page for Page {
             None => Err(Cause::NoSuchKind),
         }
         .map_err(|cause| Fault { cause, place: a })
+    }
+
+    fn points(&self, player: Player) -> HalfPoints {
+        self.totals[player.index()]
     }
 }
 
@@ -208,7 +223,7 @@ impl Page {
 
     fn total(&self, player: u16) -> Result<Done, Cause> {
         let player = Player::from_number(i32::from(player)).ok_or(Cause::NoSuchPlayers)?;
-        Ok(Done::Total(self.totals[player.index()]))
+        Ok(Done::Total(book::Page::points(self, player)))
     }
 
     fn board(&mut self, number: u16) -> Result<&mut Option<Game>, Cause> {

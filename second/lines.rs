@@ -1,12 +1,43 @@
-//! Reads a chess scoresheet's lines into operations, or says where a line cannot be read and what was
-//! expected there (docs/RULES.md, "The sheet").
+//! Reads a scoresheet's lines into headings and operations, or says where a line cannot be read and
+//! what was expected there (docs/RULES.md, "The sheet").
 
 use crate::book::Operation;
-use crate::chess::{Kind, Outcome};
+use crate::{bridge, chess, roll};
 
 pub struct Sheet {
-    pub hall: u8,
+    pub headings: Headings,
     pub lines: Vec<Line>,
+}
+
+#[derive(Default)]
+pub struct Headings {
+    pub hall: u8,
+    pub game: Game,
+    /// The chief's token, where there is a roll.
+    pub chief: Option<u32>,
+}
+
+#[derive(Clone, Copy, Default)]
+pub enum Game {
+    #[default]
+    Chess,
+    Bridge,
+}
+
+impl Game {
+    fn closing_kind(self) -> u8 {
+        match self {
+            Self::Chess => chess::Kind::Close.number(),
+            Self::Bridge => bridge::Kind::Close.number(),
+        }
+    }
+
+    fn total_kind(self) -> u8 {
+        match self {
+            Self::Chess => chess::Kind::Total.number(),
+            Self::Bridge => bridge::Kind::Total.number(),
+        }
+    }
 }
 
 /// A line that is an entry or cannot be read; no other line leaves a trace in the account.
@@ -23,7 +54,8 @@ pub struct Unreadable {
 #[derive(Clone, Copy)]
 pub enum Expected {
     FirstWord,
-    EntryNotHall,
+    EntryNotHeading,
+    Game,
     Number(Limits),
     Outcome,
     EndOfLine,
@@ -45,6 +77,10 @@ const SIXTEEN_BITS: Limits = Limits {
     least: 0,
     greatest: u16::MAX as i64,
 };
+const THIRTY_TWO_BITS: Limits = Limits {
+    least: 0,
+    greatest: u32::MAX as i64,
+};
 const NEVER_NEGATIVE: Limits = Limits {
     least: 0,
     greatest: i32::MAX as i64,
@@ -55,84 +91,148 @@ const SIGNED: Limits = Limits {
 };
 
 pub fn read(input: &[u8]) -> Sheet {
-    let mut sheet = Sheet {
-        hall: 0,
-        lines: Vec::new(),
-    };
-    let mut hall_is_settled = false;
+    let mut reader = Reader::default();
+    let mut lines = Vec::new();
     // An input that ends with byte 10 yields an empty last piece, which is passed over like any blank line.
     for (text, number) in input.split(|byte| *byte == b'\n').zip(1..) {
-        let content = match read_line(text, hall_is_settled) {
-            Ok(Statement::Nothing) => continue,
-            Ok(Statement::Hall(hall)) => {
-                sheet.hall = hall;
-                hall_is_settled = true;
-                continue;
-            }
-            Ok(Statement::Entry(operation)) => {
-                hall_is_settled = true;
-                Ok(operation)
-            }
-            Err(unreadable) => Err(unreadable),
-        };
-        sheet.lines.push(Line { number, content });
+        if let Some(content) = reader.read_line(text).transpose() {
+            lines.push(Line { number, content });
+        }
     }
-    sheet
+    Sheet {
+        headings: reader.headings,
+        lines,
+    }
+}
+
+/// What the lines read so far say about those that follow.
+#[derive(Default)]
+struct Reader {
+    headings: Headings,
+    signature: Signature,
+    entry_was_read: bool,
+}
+
+/// The grant and token that entries bear.
+#[derive(Clone, Copy, Default)]
+struct Signature {
+    grant: u8,
+    token: u32,
 }
 
 enum Statement {
     Nothing,
     Hall(u8),
+    Game(Game),
+    Chief(u32),
+    As(Signature),
     Entry(Operation),
 }
 
-fn read_line(text: &[u8], hall_is_settled: bool) -> Result<Statement, Unreadable> {
-    let mut words = Words::of(text);
-    let statement = match words.next() {
-        None | Some([b'#', ..]) => return Ok(Statement::Nothing),
-        Some(b"hall") if hall_is_settled => return Err(words.fault(Expected::EntryNotHall)),
-        Some(b"hall") => Statement::Hall(words.number(EIGHT_BITS)?),
-        Some(first) => Statement::Entry(read_entry(first, &mut words)?),
-    };
-    words.end()?;
-    Ok(statement)
-}
+impl Reader {
+    /// The line's operation, where it is an entry. A line that cannot be read changes nothing.
+    fn read_line(&mut self, text: &[u8]) -> Result<Option<Operation>, Unreadable> {
+        match self.statement(text)? {
+            Statement::Nothing => {}
+            Statement::Hall(hall) => self.headings.hall = hall,
+            Statement::Game(game) => self.headings.game = game,
+            Statement::Chief(token) => self.headings.chief = Some(token),
+            Statement::As(signature) => self.signature = signature,
+            Statement::Entry(operation) => {
+                self.entry_was_read = true;
+                return Ok(Some(operation));
+            }
+        }
+        Ok(None)
+    }
 
-/// The fields of each operation stand in the order of the words, since Rust evaluates them in the
-/// order written; so the leftmost word at fault is the one reported.
-fn read_entry(first: &[u8], words: &mut Words) -> Result<Operation, Unreadable> {
-    Ok(match first {
-        b"seat" => Operation {
-            kind: Kind::Seat.number(),
-            a: words.number(SIXTEEN_BITS)?,
-            b: words.number(SIXTEEN_BITS)?,
-            c: words.number(NEVER_NEGATIVE)?,
-        },
-        b"result" => Operation {
-            kind: Kind::Enter.number(),
-            a: words.number(SIXTEEN_BITS)?,
-            b: words.number(SIXTEEN_BITS)?,
-            c: words.outcome()?.number(),
-        },
-        b"show" => read_short_entry(Kind::Show, words)?,
-        b"close" => read_short_entry(Kind::Close, words)?,
-        b"total" => read_short_entry(Kind::Total, words)?,
-        b"op" => Operation {
-            kind: words.number(EIGHT_BITS)?,
-            a: words.number(SIXTEEN_BITS)?,
-            b: words.number(SIXTEEN_BITS)?,
-            c: words.number(SIGNED)?,
-        },
-        _ => return Err(words.fault(Expected::FirstWord)),
-    })
-}
+    fn statement(&self, text: &[u8]) -> Result<Statement, Unreadable> {
+        let mut words = Words::of(text);
+        let statement = match words.next() {
+            None | Some([b'#', ..]) => return Ok(Statement::Nothing),
+            Some(b"hall" | b"game" | b"chief") if self.entry_was_read => {
+                return Err(words.fault(Expected::EntryNotHeading));
+            }
+            Some(b"hall") => Statement::Hall(words.number(EIGHT_BITS)?),
+            Some(b"game") => Statement::Game(words.game()?),
+            Some(b"chief") => Statement::Chief(words.number(THIRTY_TWO_BITS)?),
+            Some(b"as") => Statement::As(Signature {
+                grant: words.number(EIGHT_BITS)?,
+                token: words.number(THIRTY_TWO_BITS)?,
+            }),
+            Some(first) => Statement::Entry(self.entry(first, &mut words)?),
+        };
+        words.end()?;
+        Ok(statement)
+    }
 
-fn read_short_entry(kind: Kind, words: &mut Words) -> Result<Operation, Unreadable> {
-    Ok(Operation {
-        kind: kind.number(),
-        a: words.number(SIXTEEN_BITS)?,
-        ..Operation::default()
-    })
+    /// The fields of each operation stand in the order of the words, since Rust evaluates them in the
+    /// order written; so the leftmost word at fault is the one reported.
+    fn entry(&self, first: &[u8], words: &mut Words) -> Result<Operation, Unreadable> {
+        let game = self.headings.game;
+        let signed = Operation {
+            grant: self.signature.grant,
+            token: self.signature.token,
+            ..Operation::default()
+        };
+        let with_a_alone = |kind: u8, words: &mut Words| {
+            Ok(Operation {
+                kind,
+                a: words.number(SIXTEEN_BITS)?,
+                ..signed
+            })
+        };
+        match first {
+            b"appoint" => Ok(Operation {
+                kind: roll::Kind::Appoint.number(),
+                a: words.number(SIXTEEN_BITS)?,
+                c: words.number(NEVER_NEGATIVE)?,
+                ..signed
+            }),
+            b"remove" => with_a_alone(roll::Kind::Remove.number(), words),
+            b"deputy" => with_a_alone(roll::Kind::Read.number(), words),
+            b"seat" => Ok(Operation {
+                kind: chess::Kind::Seat.number(),
+                a: words.number(SIXTEEN_BITS)?,
+                b: words.number(SIXTEEN_BITS)?,
+                c: words.number(NEVER_NEGATIVE)?,
+                ..signed
+            }),
+            b"result" => Ok(Operation {
+                kind: chess::Kind::Enter.number(),
+                a: words.number(SIXTEEN_BITS)?,
+                b: words.number(SIXTEEN_BITS)?,
+                c: words.outcome()?.number(),
+                ..signed
+            }),
+            b"show" => with_a_alone(chess::Kind::Show.number(), words),
+            b"score" => Ok(Operation {
+                kind: bridge::Kind::Score.number(),
+                a: words.number(SIXTEEN_BITS)?,
+                b: words.number(SIXTEEN_BITS)?,
+                d: words.number(SIXTEEN_BITS)?,
+                c: words.number(SIGNED)?,
+                ..signed
+            }),
+            b"line" => Ok(Operation {
+                kind: bridge::Kind::Line.number(),
+                a: words.number(SIXTEEN_BITS)?,
+                b: words.number(SIXTEEN_BITS)?,
+                ..signed
+            }),
+            b"close" => with_a_alone(game.closing_kind(), words),
+            b"total" => with_a_alone(game.total_kind(), words),
+            b"op" => Ok(Operation {
+                kind: words.number(EIGHT_BITS)?,
+                a: words.number(SIXTEEN_BITS)?,
+                b: words.number(SIXTEEN_BITS)?,
+                c: words.number(SIGNED)?,
+                d: words.number(SIXTEEN_BITS)?,
+                ..signed
+            }),
+            _ => Err(words.fault(Expected::FirstWord)),
+        }
+    }
 }
 
 /// The words of a line, taken one by one. `taken` is also the place of the word asked for last,
@@ -171,11 +271,19 @@ impl<'a> Words<'a> {
             .ok_or_else(|| self.fault(Expected::Number(limits)))
     }
 
-    fn outcome(&mut self) -> Result<Outcome, Unreadable> {
+    fn game(&mut self) -> Result<Game, Unreadable> {
         match self.next() {
-            Some(b"1-0") => Ok(Outcome::WhiteWon),
-            Some(b"1/2") => Ok(Outcome::Draw),
-            Some(b"0-1") => Ok(Outcome::BlackWon),
+            Some(b"chess") => Ok(Game::Chess),
+            Some(b"bridge") => Ok(Game::Bridge),
+            _ => Err(self.fault(Expected::Game)),
+        }
+    }
+
+    fn outcome(&mut self) -> Result<chess::Outcome, Unreadable> {
+        match self.next() {
+            Some(b"1-0") => Ok(chess::Outcome::WhiteWon),
+            Some(b"1/2") => Ok(chess::Outcome::Draw),
+            Some(b"0-1") => Ok(chess::Outcome::BlackWon),
             _ => Err(self.fault(Expected::Outcome)),
         }
     }

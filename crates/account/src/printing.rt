@@ -1,10 +1,8 @@
 // Prints the account of a sheet.
-use super::scoring::Event;
-use super::scoring::LogEntry;
-use super::scoring::Scored;
-use super::standings::Standing;
-use super::standings::next_round;
-use super::standings::place_of;
+use super::words::Bearer;
+use super::words::BearerDisplay;
+use super::words::Party;
+use super::words::PartyDisplay;
 use super::words::Points;
 use super::words::PointsDisplay;
 use super::words::Reason;
@@ -14,6 +12,14 @@ use super::words::SaidDisplay;
 use super::words::What;
 use super::words::WhatDisplay;
 use super::words::expected_words;
+use super::words::game_words;
+use entries::Game;
+use scoring::Event;
+use scoring::LogEntry;
+use scoring::Scored;
+use scoring::Standing;
+use scoring::next_round;
+use scoring::place_of;
 use std::io;
 
 // A part of the account has the line `none` where it would be empty.
@@ -28,8 +34,9 @@ fn print_entry(rt: &impl Print, line: usize, event: Event) -> io::Result<()> {
     match event {
         Event::Answered(op, answer) => {
             let what = What(op);
+            let bearer = Bearer(op.grant);
             let said = Said(op.kind, answer);
-            println!(rt, "line {line}: {what}: {said}")
+            println!(rt, "line {line}: {what}{bearer}: {said}")
         }
         Event::Unreadable(_) => println!(rt, "line {line}: cannot be read"),
     }
@@ -43,13 +50,13 @@ fn print_entries(rt: &impl Print, log: &[LogEntry]) -> io::Result<()> {
     print_none_if(rt, log.is_empty())
 }
 
-fn print_standings(rt: &impl Print, round: i32, list: &[Standing]) -> io::Result<()> {
+fn print_standings(rt: &impl Print, game: Game, round: i32, list: &[Standing]) -> io::Result<()> {
     println!(rt, "Standings before round {round}")?;
     for standing in list {
         let place = place_of(standing.points, list);
-        let player = standing.player;
-        let points = Points(standing.points);
-        println!(rt, "{place}. player {player}: {points}")?;
+        let party = Party(game, standing.party);
+        let points = Points(game, standing.points);
+        println!(rt, "{place}. {party}: {points}")?;
     }
     print_none_if(rt, list.is_empty())
 }
@@ -86,13 +93,14 @@ fn print_unread(rt: &impl Print, log: &[LogEntry]) -> io::Result<()> {
 }
 
 pub fn print_account(rt: &impl Print, scored: &Scored, list: &[Standing]) -> io::Result<()> {
-    let hall = scored.hall;
+    let game = game_words(scored.at.game);
+    let hall = scored.at.hall;
     let log = scored.log.as_slice();
-    println!(rt, "Chess scoresheet of hall {hall}")?;
+    println!(rt, "{game} scoresheet of hall {hall}")?;
     println!(rt, "")?;
     print_entries(rt, log)?;
     println!(rt, "")?;
-    print_standings(rt, next_round(log), list)?;
+    print_standings(rt, scored.at.game, next_round(scored.at.game, log), list)?;
     println!(rt, "")?;
     print_refused(rt, log)?;
     println!(rt, "")?;

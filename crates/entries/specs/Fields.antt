@@ -9,7 +9,9 @@ use Rattle.std.specs.declared.option.Option.{Option}
 use Rattle.std.specs.declared.option.Option.the-variants.{Some, None}
 use Rattle.std.specs.shelf.Text.{sameBytes}
 use Rattle.entries.specs.declared.Field.{Field}
-use Rattle.entries.specs.declared.Field.the-variants.{Byte, Number, Player, Whole, Score}
+use Rattle.entries.specs.declared.Game.{Game}
+use Rattle.entries.specs.declared.Game.the-variants.{Chess, Bridge}
+use Rattle.entries.specs.declared.Field.the-variants.{Byte, Number, Count, Token, Whole, Score}
 
 -- 0 to 9
 abbrev pub digit : ℕ → Bool
@@ -53,6 +55,11 @@ result word =
 abbrev pub value : Field → List ℕ → Option ℤ
 value Byte word = above-zero (number 255 word)
 value Number word = above-zero (number 65535 word)
-value Player word = above-zero (number 2147483647 word)
+value Count word = above-zero (number 2147483647 word)
+value Token word = above-zero (number 4294967295 word)
 value Whole word = whole word
 value Score word = result word
+
+-- the game of a sheet
+abbrev pub game : List ℕ → Option Game
+game word = cond (sameBytes word (codes "chess")) (Some Chess) (cond (sameBytes word (codes "bridge")) (Some Bridge) None)

@@ -6,11 +6,12 @@ ghost use mathlib.Core.Path.{_≡_};
 ghost use Rattle.std.specs.Options.{Cases as BySome};
 ghost use Rattle.std.specs.declared.result.Result.the-variants.{Ok};
 ghost use Rattle.std.specs.shelf.Text.{sameBytes};
-ghost use Rattle.entries.specs.Fields.{number, whole, result};
+ghost use Rattle.entries.specs.Fields.{number, whole, result, game};
 ghost use Rattle.entries.specs.Reading.{misread, and-then, field, ended};
-ghost use Rattle.entries.specs.declared.Field.the-variants.{Byte, Number, Player, Whole, Score};
+ghost use Rattle.entries.specs.declared.Field.the-variants.{Byte, Number, Count, Token, Whole, Score};
 use crate::Expected;
 use crate::Field;
+use crate::Game;
 use crate::Misread;
 use crate::words::Word;
 
@@ -19,7 +20,9 @@ const BYTE: u32 = 255;
 
 const NUMBER: u32 = 65535;
 
-const PLAYER: u32 = 2147483647;
+const COUNT: u32 = 2147483647;
+
+const TOKEN: u32 = u32::MAX;
 
 const WHOLE: u32 = 2147483647;
 
@@ -92,6 +95,18 @@ fn result_of(word: &[u8]) -> Option<i32>
     }
 }
 
+pub fn game_of(word: &[u8]) -> Option<Game>
+    ensures { λ r. ⌜ r ≡ game (now (word .entry)) ⌝ }
+{
+    if spells(word, b"chess") {
+        Some(Game::Chess)
+    } else if spells(word, b"bridge") {
+        Some(Game::Bridge)
+    } else {
+        None
+    }
+}
+
 // A word as a field of its line, or what is wrong with it.
 impl Word<'_> {
     pub fn misread(self, expected: Expected) -> Misread
@@ -121,12 +136,21 @@ impl Word<'_> {
         }
     }
 
-    pub fn player(self) -> Result<i32, Misread>
-        ensures { λ r. ⌜ r ≡ field Player (self .entry .place) (now (self .entry .text)) ⌝ }
+    pub fn count(self) -> Result<i32, Misread>
+        ensures { λ r. ⌜ r ≡ field Count (self .entry .place) (now (self .entry .text)) ⌝ }
     {
-        match number_to(PLAYER, self.text) {
+        match number_to(COUNT, self.text) {
             Some(n) => Ok(n as i32),
-            None => Err(self.misread(Expected::Value(Field::Player))),
+            None => Err(self.misread(Expected::Value(Field::Count))),
+        }
+    }
+
+    pub fn token(self) -> Result<u32, Misread>
+        ensures { λ r. ⌜ and-then r (λ n. Ok (pos n)) ≡ field Token (self .entry .place) (now (self .entry .text)) ⌝ }
+    {
+        match number_to(TOKEN, self.text) {
+            Some(n) => Ok(n),
+            None => Err(self.misread(Expected::Value(Field::Token))),
         }
     }
 

@@ -6,13 +6,33 @@ mod commands;
 mod fields;
 mod words;
 
-use commands::entry_after;
-use commands::hall_after;
-use fields::spells;
+pub use commands::close_kind;
+use commands::line_after;
+pub use commands::total_kind;
 use records::Operation;
 pub use words::Cut;
 use words::Words;
 pub use words::first_line;
+
+// The game of a sheet.
+#[derive(Clone, Copy)]
+pub enum Game {
+    Chess,
+    Bridge,
+}
+
+// What the lines so far have said of the sheet, and of the entries to come.
+#[derive(Clone, Copy)]
+pub struct Progress {
+    pub hall: u8,
+    pub game: Game,
+    // the chief's token, where there is a roll
+    pub chief: Option<u32>,
+    // an entry was read
+    pub begun: bool,
+    pub grant: u8,
+    pub token: u32,
+}
 
 // What a word after the first is to be.
 #[derive(Clone, Copy)]
@@ -22,7 +42,9 @@ pub enum Field {
     // a number from 0 to 65535
     Number,
     // a number from 0 to 2147483647
-    Player,
+    Count,
+    // a number from 0 to 4294967295
+    Token,
     // a number from -2147483648 to 2147483647
     Whole,
     // 1-0, 1/2 or 0-1, for the results 1, 2 and 3
@@ -32,10 +54,12 @@ pub enum Field {
 // What was expected where a word is at fault.
 #[derive(Clone, Copy)]
 pub enum Expected {
-    // hall, seat, result, show, close, total or op
-    Command,
-    // an entry, since the hall comes first
+    // hall, game, chief, as or an entry
+    Opening,
+    // an entry or as, since headings come first
     Entry,
+    // chess or bridge
+    Game,
     Value(Field),
     // the end of the line
     End,
@@ -53,27 +77,25 @@ pub struct Misread {
 pub enum Reading {
     Nothing,
     Hall(u8),
+    Game(Game),
+    Chief(u32),
+    // grant and token of the entries from here on
+    As(u8, u32),
     Entry(Operation),
     Unreadable(Misread),
 }
 
-// What a line says. `begun` tells whether an entry, or a hall that could be read, came before it.
-pub fn read_line(line: &[u8], begun: bool) -> Reading
-    ensures { λ r. ⌜ r ≡ reading (now (line .entry)) begun ⌝ }
+// What a line says after those that came to this progress.
+pub fn read_line(line: &[u8], at: Progress) -> Reading
+    ensures { λ r. ⌜ r ≡ reading (now (line .entry)) at ⌝ }
 {
     let mut words = Words::of(line);
     let first = words.next();
     if is_passed_over(first.text) {
         return Reading::Nothing;
     }
-    if spells(first.text, b"hall") {
-        return match hall_after(first, words, begun) {
-            Ok(hall) => Reading::Hall(hall),
-            Err(misread) => Reading::Unreadable(misread),
-        };
-    }
-    match entry_after(first, words) {
-        Ok(operation) => Reading::Entry(operation),
+    match line_after(first, words, at) {
+        Ok(reading) => reading,
         Err(misread) => Reading::Unreadable(misread),
     }
 }

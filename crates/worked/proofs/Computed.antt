@@ -7,6 +7,7 @@ use Rattle.chess.specs.Page.{no-points}
 use Rattle.chess.specs.Rules.{no-games}
 use Rattle.worked.specs.Bridge.{Three-lines}
 use Rattle.worked.specs.Chess.{One-drawn-board}
+use Rattle.worked.specs.Lines.{Sheet-lines}
 
 pub one-drawn-board : One-drawn-board
 unfolding sum-below some-below all-below table rows no-points no-games
@@ -35,4 +36,24 @@ three-lines = record {
   east-west-6 = refl;
   east-west-7 = refl;
   nobody-else = refl;
+}
+
+pub sheet-lines : Sheet-lines
+sheet-lines = record {
+  blank = refl;
+  remark = refl;
+  hall = refl;
+  hall-too-late = refl;
+  chief = refl;
+  no-game = refl;
+  bearer = refl;
+  close = refl;
+  score = refl;
+  result = refl;
+  lowest = refl;
+  too-low = refl;
+  no-such-word = refl;
+  too-large = refl;
+  missing = refl;
+  too-many = refl;
 }

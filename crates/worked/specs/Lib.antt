@@ -1,4 +1,5 @@
 -- Worked examples of the rules.
 pub mod Chess
 pub mod Bridge
+pub mod Lines
 pub mod Examples

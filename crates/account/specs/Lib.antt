@@ -1,3 +1,0 @@
--- What a sheet comes to: the events of its lines, the pages after them, and the standings.
-pub mod Scoring
-pub mod Standings
