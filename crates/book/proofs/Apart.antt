@@ -1,6 +1,6 @@
 -- What it means for two operations to be apart: all that other proofs know of it.
 use lib.Bits.{bitAnd, and-comm}
-use mathlib.Core.Path.{_≡_, ap, _∙_}
+use mathlib.Core.Path.{_∙_}
 use Rattle.book.specs.Apart.{Apart, Apart-pass}
 use Rattle.book.specs.Model.{Model, Disjoint}
 use Rattle.records.specs.declared.Operation.{Operation}

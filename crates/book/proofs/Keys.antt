@@ -4,7 +4,7 @@ use lib.Bits.{bitAnd, and-shr, and-mod}
 use lib.Dec.{eqb}
 use lib.Pow.{pow-pos}
 use mathlib.Core.Bool.{Bool, true, _&&_}
-use mathlib.Core.Path.{_≡_, refl, sym, ap, ap₂, _∙_}
+use mathlib.Core.Path.{_≡_, refl, ap, ap₂, _∙_}
 use native.Mathlib.Nat.{zero-div, div-self}
 use native.Mathlib.Omega.{arith}
 use Rattle.std.proofs.shelf.Ways.{decides-eqb, decides-below-and}

@@ -2,7 +2,7 @@
 use Prim.Native.Nat.{ℕ, _≤_}
 use lib.Bits.{and-comm}
 use lib.Dec.{eqb, ltb}
-use mathlib.Core.Bool.{Bool, true, false, cond, _&&_}
+use mathlib.Core.Bool.{Bool, true, false, _&&_}
 use mathlib.Core.Logic.{inl, inr}
 use mathlib.Core.Path.{_≡_, sym, ap, _∙_, fun-ext}
 use native.Mathlib.Omega.{arith}

@@ -5,7 +5,7 @@ use lib.Seq.{getD-set-same, getD-set-other}
 use mathlib.Core.List.{List, [], _∷_}
 use mathlib.Core.Path.{_≡_, ap, _∙_}
 use Rattle.book.proofs.Parts.{told-sheet, turned-sheet}
-use Rattle.book.specs.Model.{Page, told, turned}
+use Rattle.book.specs.Model.{told, turned}
 use Rattle.book.specs.Sheets.{Sheets, sheet-model}
 use Rattle.records.specs.declared.Operation.{Operation}
 use Rattle.std.proofs.shelf.Lists.{getD-default}

@@ -4,7 +4,6 @@ use lib.Dec.{eqb, ltb}
 use lib.IntN.{ℤ}
 use lib.ListN.{length, getD, set, replicate}
 use lib.Signed.{ltZ}
-use mathlib.Core.Bool.{cond}
 use mathlib.Core.List.{List, []}
 use mathlib.Core.Path.{_≡_, sym, ap, subst, _∙_}
 use native.Mathlib.Omega.{arith}
@@ -14,7 +13,7 @@ use Rattle.bridge.proofs.Sizes.{sized-after, sized-blank}
 use Rattle.bridge.specs.Asking.{asked}
 use Rattle.bridge.specs.Kept.{Kept-sheet, Kept, Kept-plain, Kept-lines}
 use Rattle.bridge.specs.Page.{no-points, blank, sheet-of}
-use Rattle.bridge.specs.Points.{line, has-pair, won, against, points-from, points, east-west-at, east-west, deal-points}
+use Rattle.bridge.specs.Points.{line, has-pair, won, against, points-from, points, east-west-at, east-west}
 use Rattle.bridge.specs.Rules.{no-deal, gain-at, gained, says, changed, left, after}
 use Rattle.bridge.specs.declared.asking.Ask.{Ask}
 use Rattle.bridge.specs.declared.asking.Ask.the-variants.{Score, Read, Close, Total, Refuse}

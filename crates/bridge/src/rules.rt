@@ -3,7 +3,7 @@ ghost use Prim.Native.Nat.{_<_};
 ghost use mathlib.Core.Bool.{true};
 ghost use mathlib.Core.Path.{_≡_};
 ghost use Rattle.bridge.specs.Asking.{Within};
-ghost use Rattle.bridge.specs.Rules.{with-line, score-says, read-says, says, changed, answer, after};
+ghost use Rattle.bridge.specs.Rules.{score-says, read-says, says, changed, answer, after};
 ghost use Rattle.rounds.specs.Rounds.{Small};
 ghost use Rattle.std.specs.Results.{isOk};
 use super::asking::Ask;

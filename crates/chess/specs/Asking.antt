@@ -2,7 +2,7 @@
 use Prim.Native.Nat.{ℕ, _-_, _^_, _<_, _≤_}
 use lib.Dec.{leb, eqb}
 use lib.IntN.{ℤ}
-use mathlib.Core.Bool.{Bool, cond, not, _&&_, _||_}
+use mathlib.Core.Bool.{Bool, cond, not, _&&_}
 use Rattle.book.specs.Numbers.{natural}
 use Rattle.chess.specs.declared.asking.Ask.{Ask}
 use Rattle.chess.specs.declared.asking.Ask.the-variants.{Seat, Enter, Read, Close, Total, Refuse}

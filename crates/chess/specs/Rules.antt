@@ -11,7 +11,6 @@ use Rattle.chess.specs.declared.asking.Ask.{Ask}
 use Rattle.chess.specs.declared.asking.Ask.the-variants.{Seat, Enter, Read, Close, Total, Refuse}
 use Rattle.chess.specs.declared.sheet.Board.{Board}
 use Rattle.chess.specs.declared.sheet.Board.the-variants.{Empty, Seated}
-use Rattle.chess.specs.declared.sheet.Game.{Game}
 use Rattle.chess.specs.declared.sheet.Outcome.{Outcome}
 use Rattle.chess.specs.declared.sheet.Outcome.the-variants.{White, Draw, Black}
 use Rattle.chess.specs.declared.sheet.Sheet.{Sheet}

@@ -2,7 +2,7 @@
 ghost use lib.IntN.{pos};
 ghost use mathlib.Core.List.{[], _∷_};
 ghost use mathlib.Core.Path.{_≡_};
-ghost use Rattle.entries.specs.Reading.{and-then, fields, given, operation, entry, opening, close-kind, total-kind, entry-line, hall-line, chief-line, game-line, as-line, heading, line-says};
+ghost use Rattle.entries.specs.Reading.{and-then, fields, given, operation, entry, opening, close-kind, total-kind, entry-line, hall-line, chief-line, game-line, as-line, line-says};
 ghost use Rattle.entries.specs.declared.Field.the-variants.{Number};
 ghost use Rattle.entries.specs.declared.Reading.the-variants as Reading;
 ghost use Rattle.std.specs.declared.option.Option.the-variants.{Some};

@@ -1,7 +1,7 @@
 -- The lines of a sheet, run through a book one after another.
 use Prim.Native.Nat.{ℕ, _+_}
 use lib.Dec.{eqb}
-use mathlib.Core.Bool.{Bool, true, false, cond}
+use mathlib.Core.Bool.{true, false, cond}
 use mathlib.Core.List.{List, [], _∷_, _++_}
 use Rattle.scoring.specs.declared.running.Event.{Event}
 use Rattle.scoring.specs.declared.running.Event.the-variants.{Answered, Unreadable}

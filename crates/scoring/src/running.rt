@@ -1,6 +1,4 @@
 // The lines of a sheet, run through a book one after another.
-ghost use Prim.Native.Nat.{ℕ};
-ghost use lib.ListN.{length};
 ghost use mathlib.Core.List.{_++_};
 ghost use mathlib.Core.Path.{_≡_};
 ghost use Rattle.scoring.specs.Running.{start, progress-by, event-of, progress-after, pages-after, noted, headings, sheet};

@@ -3,7 +3,6 @@ use Prim.Native.Nat.{ℕ}
 use lib.Chars.{codes}
 use lib.IntN.{ℤ, pos, negsuc}
 use mathlib.Core.Bool.{true, false}
-use mathlib.Core.List.{List}
 use mathlib.Core.Path.{_≡_}
 use Rattle.entries.specs.Reading.{misread, reading}
 use Rattle.entries.specs.declared.Expected.the-variants as Expected
@@ -12,7 +11,6 @@ use Rattle.entries.specs.declared.Game.the-variants as Game
 use Rattle.entries.specs.declared.Progress.{Progress}
 use Rattle.entries.specs.declared.Reading.{Reading}
 use Rattle.entries.specs.declared.Reading.the-variants as Reading
-use Rattle.records.specs.declared.Operation.{Operation}
 use Rattle.std.specs.declared.option.Option.the-variants.{Some, None}
 
 -- before the first line; and in a sheet of bridge, among entries by grant 3 with token 77

@@ -1,5 +1,5 @@
 use Prim.Native.Nat.{ℕ, _+_, _<_, _≤_}
-use lib.ListN.{length, getD}
+use lib.ListN.{getD}
 use mathlib.Core.Path.{_≡_}
 use Rattle.rounds.proofs.raise.Given as given
 

@@ -1,5 +1,5 @@
 use lib.Dec.{lit<}
-use mathlib.Core.Path.{_≡_, ap, _∙_}
+use mathlib.Core.Path.{ap, _∙_}
 use Rattle.chess.specs.Page.{chess-model}
 use Rattle.roll.specs.Roll.{roll-model, first-page}
 use Rattle.worked.proofs.verdict_under_two_rolls.Needs as need

@@ -1,7 +1,7 @@
-use Prim.Native.Nat.{_-_, _≤_, _<_}
+use Prim.Native.Nat.{_-_, _<_}
 use borrow.Author.Needs.{needs}
-use lib.IntN.{ℤ, pos, negℤ, _-ℤ_}
-use lib.ListN.{length, getD, take, drop}
+use lib.IntN.{pos, negℤ, _-ℤ_}
+use lib.ListN.{length, getD, drop}
 use mathlib.Core.Path.{_≡_, sym, ap, _∙_}
 use mir.Syntax.{w32, w64}
 use mir.Val.{toZ, ofZ}

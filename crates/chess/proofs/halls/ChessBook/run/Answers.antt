@@ -1,7 +1,7 @@
 use Prim.Native.Nat.{_<_}
 use borrow.Author.Needs.{needs}
 use lib.ListN.{length, set}
-use mathlib.Core.Path.{_≡_, sym, ap, subst, _∙_}
+use mathlib.Core.Path.{sym, ap, subst, _∙_}
 use native.Mathlib.Omega.{arith}
 use Rattle.book.proofs.Tables.{read-table, told-table, turned-table}
 use Rattle.chess.proofs.Kept.{no-sheet, small-read, kept-after}
