@@ -1,17 +1,18 @@
 -- Laws of sums, tests and lists over the numbers below n: the start of a loop over them, its step, and what it comes to.
 use Prim.Native.Nat.{ℕ, zero, suc, _+_, _-_, _*_, _<_, _≤_}
+use lib.Dec.{eqb}
 use lib.ListN.{length, getD, length-append}
-use mathlib.Core.Bool.{Bool, true, false, _&&_, _||_}
+use mathlib.Core.Bool.{Bool, true, false, cond, _&&_, _||_}
 use mathlib.Core.List.{List}
 use mathlib.Core.Logic.{inl, inr}
-use mathlib.Core.Path.{_≡_, refl, sym, ap, _∙_}
-use native.Mathlib.Nat.{mul-suc}
+use mathlib.Core.Path.{_≡_, refl, sym, ap, ap₂, _∙_}
+use native.Mathlib.Nat.{mul-suc, mul-add}
 use native.Mathlib.Numerals.{add-one}
 use native.Mathlib.Omega.{arith}
 use Rattle.book.specs.Below.{sum-below, some-below, all-below, table, rows}
 use Rattle.std.proofs.shelf.Counted.{length-map-counting, getD-map-counting, fill-by-all}
 use Rattle.std.proofs.shelf.Lists.{getD-append-left, getD-append-right}
-use Rattle.std.proofs.shelf.Tests.{cases-eq, and-left, and-right, or-left, or-right}
+use Rattle.std.proofs.shelf.Tests.{cases-eq, cond-true, cond-false, eq-eqb, ne-eqb, and-left, and-right, or-left, or-right}
 
 pub sum-none : (f : ℕ → ℕ) → sum-below 0 f ≡ 0
 unfolding sum-below
@@ -25,6 +26,66 @@ pub sum-bound : (f : ℕ → ℕ) (most n : ℕ) → ((k : ℕ) → f k ≤ most
 unfolding sum-below
 sum-bound f most zero h = omega arith
 sum-bound f most (suc n) h = omega (arith, sum-bound f most n h, h n, mul-suc most n)
+
+pub sum-same : (f g : ℕ → ℕ) (n : ℕ) → ((k : ℕ) → k < n → f k ≡ g k) → sum-below n f ≡ sum-below n g
+unfolding sum-below
+sum-same f g zero h = refl
+sum-same f g (suc n) h = ap₂ (λ x y. x + y) (sum-same f g n (λ k l. h k (omega arith))) (h n (omega arith))
+
+pub sum-zero : (n : ℕ) → sum-below n (λ _. 0) ≡ 0
+unfolding sum-below
+sum-zero zero = refl
+sum-zero (suc n) = omega (arith, sum-zero n)
+
+pub sum-add : (f g : ℕ → ℕ) (n : ℕ) → sum-below n (λ k. f k + g k) ≡ sum-below n f + sum-below n g
+unfolding sum-below
+sum-add f g zero = refl
+sum-add f g (suc n) = omega (arith, sum-add f g n)
+
+pub sum-times : (f : ℕ → ℕ) (c n : ℕ) → sum-below n (λ k. c * f k) ≡ c * sum-below n f
+unfolding sum-below
+sum-times f c zero = omega arith
+sum-times f c (suc n) = omega (arith, sum-times f c n, mul-add c (sum-below n f) (f n))
+
+-- rows and columns sum to the same
+pub sum-swap : (f : ℕ → ℕ → ℕ) (m n : ℕ) → sum-below m (λ i. sum-below n (f i)) ≡ sum-below n (λ k. sum-below m (λ i. f i k))
+unfolding sum-below
+sum-swap f zero n = sym (sum-zero n)
+sum-swap f (suc m) n = ap (λ x. x + sum-below n (f m)) (sum-swap f m n) ∙ sym (sum-add (λ k. sum-below m (λ i. f i k)) (f m) n)
+
+-- a number that stands at one place alone
+pub sum-one : (place x n : ℕ) → place < n → sum-below n (λ i. cond (eqb place i) x 0) ≡ x
+unfolding sum-below
+sum-one place x zero h = absurd (omega arith)
+sum-one place x (suc n) h =
+    elim (cases-eq place n) [
+      | inl e ↦
+          let last = cond-true (eqb place n) x 0 (eq-eqb place n e) in
+          let others : sum-below n (λ i. cond (eqb place i) x 0) ≡ 0 =
+          sum-same (λ i. cond (eqb place i) x 0) (λ _. 0) n (λ k l. cond-false (eqb place k) x 0 (ne-eqb place k (omega arith))) ∙ sum-zero n in
+          omega arith
+      | inr ne ↦
+          let last = cond-false (eqb place n) x 0 (ne-eqb place n ne) in
+          omega (arith, sum-one place x n (omega arith))
+    ]
+
+-- all but one, and the one
+pub sum-without : (f : ℕ → ℕ) (place n : ℕ) → place < n → sum-below n (λ i. cond (eqb i place) 0 (f i)) + f place ≡ sum-below n f
+sum-without f place n h =
+    let others : ℕ → ℕ = λ i. cond (eqb i place) 0 (f i) in
+    let here : ℕ → ℕ = λ i. cond (eqb place i) (f place) 0 in
+    ap (λ x. sum-below n others + x) (sym (sum-one place (f place) n h)) ∙ sym (sum-add others here n)
+    ∙ sum-same (λ i. others i + here i) f n (λ i _.
+    elim (cases-eq i place) [
+      | inl e ↦
+          let one = cond-true (eqb i place) 0 (f i) (eq-eqb i place e) in
+          let two = cond-true (eqb place i) (f place) 0 (eq-eqb place i (sym e)) in
+          omega (arith, ap f e)
+      | inr ne ↦
+          let one = cond-false (eqb i place) 0 (f i) (ne-eqb i place ne) in
+          let two = cond-false (eqb place i) (f place) 0 (ne-eqb place i (λ e. ne (sym e))) in
+          omega arith
+    ])
 
 pub some-none : (t : ℕ → Bool) → some-below 0 t ≡ false
 unfolding some-below

@@ -4,3 +4,4 @@ pub mod Points
 pub mod Rules
 pub mod Page
 pub mod Kept
+pub mod Promises

@@ -4,3 +4,4 @@ pub mod Parts
 pub mod Keys
 pub mod Laws
 pub mod Kept
+pub mod Points

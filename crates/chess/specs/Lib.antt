@@ -2,3 +2,4 @@ pub mod Asking
 pub mod Rules
 pub mod Page
 pub mod Kept
+pub mod Promises

@@ -2,6 +2,7 @@
 mod asking;
 mod closing;
 mod halls;
+mod promises;
 mod rules;
 mod sheet;
 mod state;
@@ -12,5 +13,6 @@ pub use asking::READ;
 pub use asking::SEAT;
 pub use asking::TOTAL;
 pub use halls::ChessBook;
+pub use promises::games_give_a_point;
 pub use rules::LAYER;
 pub use state::Chess;
