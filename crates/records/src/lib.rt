@@ -1,6 +1,37 @@
-// The records that travel between consoles, halls and books: operations and their answers.
+// The records that travel between consoles, halls and books: operations and answers, transactions, sets of halls and messages.
 ghost use mathlib.Core.Path.{_≡_};
 ghost use Rattle.records.specs.Answers.{done-with, fault-at, well-done};
+
+mod classes;
+mod finder;
+mod halls;
+mod messages;
+mod transactions;
+
+pub use classes::Class;
+pub use classes::Status;
+pub use classes::class_of;
+pub use classes::status_of;
+pub use finder::Bears;
+pub use finder::first_from;
+pub use halls::count_of;
+pub use halls::fits;
+pub use halls::has;
+pub use messages::Message;
+pub use messages::MessageBears;
+pub use messages::Reply;
+pub use messages::Request;
+pub use messages::Vote;
+pub use messages::is_lawful;
+pub use transactions::CONSOLES;
+pub use transactions::LAST_SEQUENCE;
+pub use transactions::LAST_STAMP;
+pub use transactions::console_of;
+pub use transactions::is_stamp;
+pub use transactions::is_transaction;
+pub use transactions::next_stamp;
+pub use transactions::sequence_of;
+pub use transactions::worked_stamps;
 
 // What a book is asked to do, by whom and with which numbers.
 #[derive(Clone, Copy)]
