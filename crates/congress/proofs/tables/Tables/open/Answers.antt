@@ -1,0 +1,7 @@
+use borrow.Author.Needs.{needs}
+use Rattle.congress.proofs.tables.Tables.open.Needs as need
+use Rattle.congress.specs.State.{new-halls, new-consoles}
+
+pub returns : need.returns
+unfolding new-halls new-consoles
+returns c = search needs
