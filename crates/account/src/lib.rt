@@ -1,4 +1,5 @@
 // Scores the sheet on standard input, in the book that its headings ask for, and prints the account.
+#![tactic(auto)]
 mod printing;
 mod words;
 

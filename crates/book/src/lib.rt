@@ -1,4 +1,6 @@
 // What a book is: three questions about operations on the pages of eight halls, and the law that every book obeys.
+#![tactic(auto)]
+
 ghost use Rattle.std.specs.Prelude.{◌≡◌, ℕ, true, ◌==◌, bit_and};
 ghost use Rattle.book.specs.Apart.{Pass, apart};
 ghost use Rattle.book.specs.Model.{Page, Model, Lawful, told, turned};
@@ -44,8 +46,8 @@ fn share_no_key(x: u64, y: u64) -> bool
 
 // Whether two operations may pass each other: they then reach the same page in either order, with the same answers.
 pub fn may_pass<B: Book>(o: Operation, q: Operation) -> bool
-    ensures value { result ≡ apart model o q }
-    ensures passes { result ≡ true → (p : Page) → model.own p → Pass model p o q }
+    ensures value { result ≡ apart B.model o q }
+    ensures passes { result ≡ true → (p : Page) → B.model.own p → Pass B.model p o q }
 {
     share_no_key(B::keys(o), B::keys(q))
 }

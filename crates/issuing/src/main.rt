@@ -1,4 +1,5 @@
 // Makes one morning's calls at a congress, and prints what each said and what the post then holds.
+#![tactic(auto)]
 mod calls;
 mod words;
 

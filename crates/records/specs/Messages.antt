@@ -4,7 +4,6 @@ use Rattle.records.specs.Classes.{status_of}
 use Rattle.records.specs.Halls.{names, fit}
 use Rattle.records.specs.Transactions.{transaction, stamp}
 use Rattle.records.specs.declared.messages.Message.{Message}
-use Rattle.records.specs.declared.messages.Message.TheVariants as Message
 use Rattle.records.specs.declared.messages.Reply.{Reply}
 use Rattle.records.specs.declared.messages.Request.{Request}
 use Rattle.records.specs.declared.messages.Vote.{Vote}

@@ -1,4 +1,6 @@
 // The records that travel between consoles, halls and books: operations and answers, transactions, sets of halls and messages.
+#![tactic(auto)]
+
 ghost use Rattle.std.specs.Prelude.{◌≡◌};
 ghost use Rattle.records.specs.Answers.{done_with, fault_at, well_done};
 

@@ -1,4 +1,5 @@
 // What the books of chess and bridge share: their faults and answers, and the closing of a round.
+#![tactic(auto)]
 ghost use Rattle.std.specs.Prelude.{◌≡◌, ℕ, ◌<◌, ◌≤◌, length};
 ghost use Rattle.rounds.specs.Faults.{fault_number, answered};
 ghost use Rattle.rounds.specs.Rounds.{in_turn, raised, Small};

@@ -1,4 +1,5 @@
 // Scores one hall's sheet from standard input and prints the account.
+#![tactic(auto)]
 use account::score_input;
 use std::io;
 

@@ -1,4 +1,5 @@
 // Runs a sheet through a book, and tells what came of its lines and how the parties stand.
+#![tactic(auto)]
 mod running;
 mod standings;
 
