@@ -1,5 +1,6 @@
 // What the books of chess and bridge share: their faults and answers, and the closing of a round.
 #![tactic(auto)]
+
 ghost use Rattle.std.specs.Prelude.{◌≡◌, ℕ, ◌<◌, ◌≤◌, length};
 ghost use Rattle.rounds.specs.Faults.{fault_number, answered};
 ghost use Rattle.rounds.specs.Rounds.{in_turn, raised, Small};
@@ -77,7 +78,7 @@ pub trait Gains {
 pub fn raise<G: Gains>(totals: &mut [u32], round: u16, gains: &G)
     requires few { length totals.old ≤ 64 }
     requires small { Small round totals.old }
-    ensures { totals.new ≡ raised totals.old (gain gains.now) }
+    ensures { totals.new ≡ raised totals.old (G.gain gains.now) }
 {
     for i in 0..totals.len() {
         totals[i] += gains.gained(i);
