@@ -1,5 +1,6 @@
 // The book of bridge: 16 deals and eight pairs a side in each hall, scored by match points.
 #![tactic(auto)]
+
 mod asking;
 mod closing;
 mod halls;

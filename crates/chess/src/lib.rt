@@ -1,5 +1,6 @@
 // The book of chess: 32 boards and 64 players in each hall, rounds that are paired, scored and closed.
 #![tactic(auto)]
+
 mod asking;
 mod closing;
 mod halls;

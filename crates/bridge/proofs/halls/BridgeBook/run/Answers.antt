@@ -13,8 +13,8 @@ run-requires c =
     let inside : c.args.hall < length b.sheets = search rules in
     small_read b.sheets c.args.hall inside (kept b.sheets b.plain b.lines)
 
-pub invariant-of-self : goal.invariant-of-self
-invariant-of-self c =
+pub invariant_of-self : goal.invariant_of-self
+invariant_of-self c =
     let b = c.args.self.now in
     let hall = c.args.hall in
     let o = c.args.op in
@@ -23,7 +23,7 @@ invariant-of-self c =
     let new = c.run.ensures.after ∙ ap (λ s. after s o) (read_table bridge_sheets b.sheets hall blank no_sheet o inside (omega arith) again) in
     let all : Kept (set b.sheets hall c.run.new.self) =
     subst (λ s. Kept (set b.sheets hall s)) (sym new) (kept_after b.sheets hall o (kept b.sheets b.plain b.lines)) in
-    (kept_plain (set b.sheets hall c.run.new.self) all, (kept_lines (set b.sheets hall c.run.new.self) all, tt))
+    record { plain = kept_plain (set b.sheets hall c.run.new.self) all; lines = kept_lines (set b.sheets hall c.run.new.self) all }
 
 pub returns : goal.returns
 returns c =

@@ -6,8 +6,8 @@ use Rattle.bridge.specs.Points.{elsewhere_at}
 pub loop-i-init : goal.loop-i-init
 loop-i-init c = some_none (elsewhere_at c.args.self.now c.args.b c.args.pair)
 
-pub returns-then-plays-on-other : goal.returns-then-plays-on-other
-returns-then-plays-on-other c =
+pub returns-then-plays_on_other : goal.returns-then-plays_on_other
+returns-then-plays_on_other c =
     let here : elsewhere_at c.args.self.now c.args.b c.args.pair c.loop-i.i ≡ true = search rules in
     sym (some_at (elsewhere_at c.args.self.now c.args.b c.args.pair) 8 c.loop-i.i (omega arith) here)
 

@@ -13,15 +13,15 @@ run-requires c =
     let inside : c.args.hall < length b.sheets = search rules in
     small_read b.sheets c.args.hall inside b.kept
 
-pub invariant-of-self : goal.invariant-of-self
-invariant-of-self c =
+pub invariant_of-self : goal.invariant_of-self
+invariant_of-self c =
     let b = c.args.self.now in
     let hall = c.args.hall in
     let o = c.args.op in
     let inside : hall < length b.sheets = search rules in
     let again = read_write (sheet_of b.sheets hall) (b.kept hall).0 in
     let new = c.run.ensures.after ∙ ap (λ s. after s o) (read_table chess_sheets b.sheets hall blank no_sheet o inside (omega arith) again) in
-    (subst (λ s. Kept (set b.sheets hall s)) (sym new) (kept_after b.sheets hall o b.kept), tt)
+    record { kept = subst (λ s. Kept (set b.sheets hall s)) (sym new) (kept_after b.sheets hall o b.kept) }
 
 pub returns : goal.returns
 returns c =

@@ -6,8 +6,8 @@ use Rattle.chess.specs.Rules.{finished_at}
 pub loop-board-init : goal.loop-board-init
 loop-board-init c = all_none (finished_at c.args.self.now)
 
-pub returns-then-not-is-finished : goal.returns-then-not-is-finished
-returns-then-not-is-finished c =
+pub returns-then-not-is_finished : goal.returns-then-not-is_finished
+returns-then-not-is_finished c =
     let here : finished_at c.args.self.now c.loop-board.board-index ≡ false = search rules in
     sym (not_all_at (finished_at c.args.self.now) 32 c.loop-board.board-index (omega arith) here)
 

@@ -6,8 +6,8 @@ use Rattle.chess.specs.Rules.{seated_at}
 pub loop-board-init : goal.loop-board-init
 loop-board-init c = some_none (seated_at c.args.self.now)
 
-pub returns-then-is-seated : goal.returns-then-is-seated
-returns-then-is-seated c =
+pub returns-then-is_seated : goal.returns-then-is_seated
+returns-then-is_seated c =
     let here : seated_at c.args.self.now c.loop-board.board-index ≡ true = search rules in
     sym (some_at (seated_at c.args.self.now) 32 c.loop-board.board-index (omega arith) here)
 

@@ -3,8 +3,8 @@ use Rattle.chess.proofs.Kept.{all_blank, kept_new}
 use Rattle.chess.proofs.state.Chess.new.Goals as goal
 use Rattle.chess.specs.Page.{write}
 
-pub invariant-of-result : goal.invariant-of-result
-invariant-of-result c = (kept_new c.blank-sheet.result c.blank-sheet.ensures, tt)
+pub invariant_of-result : goal.invariant_of-result
+invariant_of-result c = record { kept = kept_new c.blank_sheet.result c.blank_sheet.ensures }
 
 pub returns : goal.returns
-returns c = λ h. ap write (all_blank c.blank-sheet.result h c.blank-sheet.ensures)
+returns c = λ h. ap write (all_blank c.blank_sheet.result h c.blank_sheet.ensures)
