@@ -24,7 +24,7 @@ pub struct Roll<B> {
 impl<B: Book> Roll<B> {
     // The chief's token in every hall, and no deputies.
     pub fn new(chief: u32, below: B) -> Roll<B>
-        ensures { (h : ℕ) → h < 8 → page_of pages result h ≡ first_page chief (pages below h) }
+        ensures { (h : ℕ) → h < 8 → page_of B.pages result h ≡ first_page chief (B.pages below h) }
     {
         Roll {
             tokens: Tokens::new(chief),
@@ -57,7 +57,7 @@ fn refuse_hall(hall: u8) -> Answer
 impl<B: Book> Roll<B> {
     fn verdict_at(&self, hall: u8, op: Operation) -> Answer
         requires { hall < 8 }
-        ensures { result ≡ answer model (sheet_of pages self.now hall) op }
+        ensures { result ≡ answer B.model (sheet_of B.pages self.now hall) op }
     {
         match self.tokens.admit(hall, op) {
             Ask::Below => self.below.verdict(hall, op),
@@ -68,9 +68,9 @@ impl<B: Book> Roll<B> {
 
     fn run_at(&mut self, hall: u8, op: Operation) -> Answer
         requires { hall < 8 }
-        ensures answer { result ≡ answer model (sheet_of pages self.old hall) op }
-        ensures here { sheet_of pages self.new hall ≡ after model (sheet_of pages self.old hall) op }
-        ensures others { (h : ℕ) → (h ≢ hall) → sheet_of pages self.new h ≡ sheet_of pages self.old h }
+        ensures answer { result ≡ answer B.model (sheet_of B.pages self.old hall) op }
+        ensures here { sheet_of B.pages self.new hall ≡ after B.model (sheet_of B.pages self.old hall) op }
+        ensures others { (h : ℕ) → (h ≢ hall) → sheet_of B.pages self.new h ≡ sheet_of B.pages self.old h }
     {
         match self.tokens.admit(hall, op) {
             Ask::Below => self.below.run(hall, op),

@@ -1,5 +1,6 @@
 // The roll of deputies, a book over any book: it lets through only what is asked under a grant that stands.
 #![tactic(auto)]
+
 mod asking;
 mod halls;
 mod promises;

@@ -5,14 +5,14 @@ use book::Book;
 
 // Under a grant that was removed nothing is done.
 pub fn removal_empties<B: Book>() -> u8
-    ensures { RemovalEmpties model }
+    ensures { RemovalEmpties B.model }
 {
     0
 }
 
 // Nothing but the chief's appointments and removals changes an entry.
 pub fn entries_stay<B: Book>() -> u8
-    ensures { EntriesStay model }
+    ensures { EntriesStay B.model }
 {
     0
 }

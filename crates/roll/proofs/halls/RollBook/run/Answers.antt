@@ -8,6 +8,6 @@ returns g c =
     let pages = g.B.Book.pages in
     let r = c.args.self.now in
     record {
-      answer = told_roll m pages r c.args.hall c.args.op (omega arith) c.run-at.result c.run-at.ensures.answer;
-      pages = turned_roll m pages r c.args.hall c.args.op (omega arith) c.run-at.new.self c.run-at.ensures.here c.run-at.ensures.others;
+      answer = told_roll m pages r c.args.hall c.args.op (omega arith) c.run_at.result c.run_at.ensures.answer;
+      pages = turned_roll m pages r c.args.hall c.args.op (omega arith) c.run_at.new.self c.run_at.ensures.here c.run_at.ensures.others;
     }

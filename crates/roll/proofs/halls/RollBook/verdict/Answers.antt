@@ -5,4 +5,4 @@ use Rattle.roll.proofs.halls.RollBook.verdict.Goals as goal
 pub returns : goal.returns
 returns g c =
     told_roll g.B.Book.model g.B.Book.pages c.args.self.now c.args.hall c.args.op (omega arith)
-    c.verdict-at.result c.verdict-at.ensures
+    c.verdict_at.result c.verdict_at.ensures

@@ -5,4 +5,4 @@ use Rattle.roll.proofs.tokens.Tokens.at.Goals as goal
 pub returns : goal.returns
 returns c =
     let all = c.args.self.now.tokens in
-    ap (λ k. get_or all k 0) c.place-of.ensures.value ∙ sym (entry_hall all c.args.hall c.args.entry c.requires.1)
+    ap (λ k. get_or all k 0) c.place_of.ensures.value ∙ sym (entry_hall all c.args.hall c.args.entry c.requires.1)

@@ -10,10 +10,10 @@ returns c =
     let a = c.args.entry in
     let v = c.args.token in
     let inside : hall * 16 + a < length all = search rules in
-    let placed : (h : ℕ) → hall_tokens (set all c.place-of.result v) h ≡ hall_tokens (set all (hall * 16 + a) v) h =
-    λ h. ap (λ k. hall_tokens (set all k v) h) c.place-of.ensures.value in
+    let placed : (h : ℕ) → hall_tokens (set all c.place_of.result v) h ≡ hall_tokens (set all (hall * 16 + a) v) h =
+    λ h. ap (λ k. hall_tokens (set all k v) h) c.place_of.ensures.value in
     record {
-      before = c.at_before.ensures;
+      before = c.at-before.ensures;
       here = placed hall ∙ put_here all hall a v c.requires.1 inside;
       others = λ h n. placed h ∙ put_others all hall a v c.requires.1 inside h n;
     }
