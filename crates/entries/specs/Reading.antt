@@ -3,19 +3,13 @@ use Rattle.std.specs.Prelude.{ℕ, suc, Bool, true, cond, List, [], ◌∷◌, �
 use Rattle.std.specs.Str.{bytes_eq}
 use Rattle.records.specs.declared.Operation.{Operation}
 use Rattle.entries.specs.declared.Expected.{Expected}
-use Rattle.entries.specs.declared.Expected.TheVariants as Expected
 use Rattle.entries.specs.declared.Field.{Field}
-use Rattle.entries.specs.declared.Field.TheVariants as Field
 use Rattle.entries.specs.declared.Game.{Game}
-use Rattle.entries.specs.declared.Game.TheVariants as Game
 use Rattle.entries.specs.declared.Misread.{Misread}
 use Rattle.entries.specs.declared.Progress.{Progress}
 use Rattle.entries.specs.declared.Reading.{Reading}
-use Rattle.entries.specs.declared.Reading.TheVariants as Reading
 use Rattle.entries.specs.declared.commands.Command.{Command}
-use Rattle.entries.specs.declared.commands.Command.TheVariants as Command
 use Rattle.entries.specs.declared.commands.Opening.{Opening}
-use Rattle.entries.specs.declared.commands.Opening.TheVariants as Opening
 use Rattle.entries.specs.Fields.{value, game}
 use Rattle.entries.specs.Words.{first_word, past_word}
 

@@ -1,5 +1,6 @@
 // Reads the lines of a scoresheet: what each says, or which of its words is at fault.
 #![tactic(auto)]
+
 ghost use Rattle.std.specs.Prelude.{◌≡◌};
 ghost use Rattle.entries.specs.Reading.{passed_over, reading};
 

@@ -5,11 +5,11 @@ use Rattle.entries.proofs.Digits.{number_is, past_limit, digits_more, digits_all
 use Rattle.entries.proofs.fields.number_to.Goals as goal
 
 -- a byte that is no digit
-pub returns-then-not-is-ascii-digit : goal.returns-then-not-is-ascii-digit
-returns-then-not-is-ascii-digit c =
+pub returns-then-not-is_ascii_digit : goal.returns-then-not-is_ascii_digit
+returns-then-not-is_ascii_digit c =
     let xs = c.args.word.now in
     let i = c.loop-byte.byte-index in
-    let is = sym c.if-not-is-ascii-digit.ensures.value in
+    let is = sym c.if-not-is_ascii_digit.ensures.value in
     let none = digits_more xs i c.loop-byte.value false c.loop-byte-test.true is in
     record {
       value = sym (number_is c.args.limit xs None (search rules) (sym c.loop-byte.invariant.0 ∙ none));
@@ -22,7 +22,7 @@ returns-then-value-from c =
     let xs = c.args.word.now in
     let limit = c.args.limit in
     let i = c.loop-byte.byte-index in
-    let is = sym c.if-not-is-ascii-digit.ensures.value in
+    let is = sym c.if-not-is_ascii_digit.ensures.value in
     let more = digits_more xs i c.loop-byte.value true c.loop-byte-test.true is in
     let next = c.loop-byte.value * 10 + c.from.result in
     let rest = drop (i + 1) xs in
@@ -37,7 +37,7 @@ pub loop-byte-preserved : goal.loop-byte-preserved
 loop-byte-preserved c =
     let xs = c.args.word.now in
     let i = c.loop-byte.byte-index in
-    let is = sym c.if-not-is-ascii-digit.ensures.value in
+    let is = sym c.if-not-is_ascii_digit.ensures.value in
     let more = digits_more xs i c.loop-byte.value true c.loop-byte-test.true is in
     (cc, omega arith)
 

@@ -1,4 +1,4 @@
-use Rattle.std.proofs.Common.{◌≡◌, ◌-◌, ◌<◌, length, get_or, drop, pos, ◌-ℤ◌, neg_ℤ, Some, None, sym, ap, ◌∙◌, arith, w32, w64, to_z, of_z, rules}
+use Rattle.std.proofs.Common.{◌≡◌, ◌<◌, length, get_or, drop, pos, ◌-ℤ◌, neg_ℤ, Some, None, sym, ap, ◌∙◌, arith, w32, w64, to_z, of_z, rules}
 use Rattle.std.proofs.lemmas.List.{take_rest}
 use Rattle.std.proofs.lemmas.Int.{ints}
 use Rattle.entries.specs.Fields.{number, below_zero}

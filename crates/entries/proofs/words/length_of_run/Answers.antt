@@ -3,12 +3,12 @@ use Rattle.entries.specs.Words.{belongs, front}
 use Rattle.entries.proofs.Runs.{front_more, front_all, take_front, drop_front}
 use Rattle.entries.proofs.words.length_of_run.Goals as goal
 
-pub returns-then-not-belongs-to : goal.returns-then-not-belongs-to
-returns-then-not-belongs-to c =
+pub returns-then-not-belongs_to : goal.returns-then-not-belongs_to
+returns-then-not-belongs_to c =
     let p = belongs c.args.run in
     let xs = c.args.text.now in
     let i = c.loop-i.i in
-    let none = front_more p xs i false c.loop-i-test.true (sym c.if-not-belongs-to.ensures) in
+    let none = front_more p xs i false c.loop-i-test.true (sym c.if-not-belongs_to.ensures) in
     let value : i ≡ length (front p xs) = omega arith in
     record {
       front = take_front p xs i value;
@@ -19,7 +19,7 @@ returns-then-not-belongs-to c =
 pub loop-i-preserved : goal.loop-i-preserved
 loop-i-preserved c =
     let p = belongs c.args.run in
-    omega (arith, front_more p c.args.text.now c.loop-i.i true c.loop-i-test.true (sym c.if-not-belongs-to.ensures))
+    omega (arith, front_more p c.args.text.now c.loop-i.i true c.loop-i-test.true (sym c.if-not-belongs_to.ensures))
 
 pub returns : goal.returns
 returns c =

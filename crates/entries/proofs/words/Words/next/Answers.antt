@@ -7,14 +7,14 @@ use Rattle.entries.proofs.words.Words.next.Goals as goal
 pub returns : goal.returns
 returns c =
     let xs = c.args.self.now.rest.now in
-    let start = c.length-of-run-start.result in
-    let end = c.length-of-run-end.result in
+    let start = c.length_of_run-start.result in
+    let end = c.length_of_run-end.result in
     let from = take (length xs - start) (drop start xs) in
-    let from_is = take_rest xs start ∙ c.length-of-run-start.ensures.past in
+    let from_is = take_rest xs start ∙ c.length_of_run-start.ensures.past in
     let whole : end - 0 ≡ end = omega arith in
     record {
-      word = ap (λ n. take n from) whole ∙ c.length-of-run-end.ensures.front ∙ ap (front (belongs Word)) from_is;
-      rest = take_rest from end ∙ c.length-of-run-end.ensures.past ∙ ap (past (belongs Word)) from_is;
+      word = ap (λ n. take n from) whole ∙ c.length_of_run-end.ensures.front ∙ ap (front (belongs Word)) from_is;
+      rest = take_rest from end ∙ c.length_of_run-end.ensures.past ∙ ap (past (belongs Word)) from_is;
       place = refl;
       further = refl;
     }
