@@ -6,7 +6,6 @@ use Rattle.entries.specs.declared.Field.TheVariants as Field
 use Rattle.entries.specs.declared.Game.TheVariants as Game
 use Rattle.entries.specs.declared.Progress.{Progress}
 use Rattle.entries.specs.declared.Reading.{Reading}
-use Rattle.entries.specs.declared.Reading.TheVariants as Reading
 
 -- before the first line; and in a sheet of bridge, among entries by grant 3 with token 77
 abbrev fresh : Progress

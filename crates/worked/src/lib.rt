@@ -1,5 +1,6 @@
 // Worked examples of the rules, proved of their definitions, and a roll over a roll.
 #![tactic(auto)]
+
 ghost use Rattle.std.specs.Prelude.{◌≡◌};
 ghost use Rattle.chess.specs.Page.{write, blank, chess_model};
 ghost use Rattle.roll.specs.Roll.{roll_model, first_page};
