@@ -9,7 +9,6 @@ use Rattle.entries.specs.declared.Game.{Game}
 use Rattle.entries.specs.declared.Game.TheVariants.{Chess}
 use Rattle.entries.specs.declared.Progress.{Progress}
 use Rattle.entries.specs.declared.Reading.{Reading}
-use Rattle.entries.specs.declared.Reading.TheVariants as Reading
 
 -- a text is cut at each byte 10; what follows the last is a line too, unless it is empty
 abbrev pub onto : ℕ → List (List ℕ) → List (List ℕ)

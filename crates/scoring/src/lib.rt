@@ -1,5 +1,6 @@
 // Runs a sheet through a book, and tells what came of its lines and how the parties stand.
 #![tactic(auto)]
+
 mod running;
 mod standings;
 

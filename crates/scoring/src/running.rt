@@ -40,9 +40,9 @@ fn note_heading(at: &mut Progress, reading: Reading)
 
 // Does what one line says.
 fn take_line<B: Book>(book: &mut B, at: &mut Progress, line: &[u8]) -> Option<Event>
-    ensures event { result ≡ event_of model (pages book.old) at.old line.now }
+    ensures event { result ≡ event_of B.model (B.pages book.old) at.old line.now }
     ensures progress { at.new ≡ progress_after at.old line.now }
-    ensures pages { pages book.new ≡ pages_after model (pages book.old) at.old line.now }
+    ensures pages { B.pages book.new ≡ pages_after B.model (B.pages book.old) at.old line.now }
 {
     let reading = read_line(line, *at);
     note_heading(at, reading);
@@ -100,8 +100,8 @@ pub fn headings_of(text: &[u8]) -> Progress
 
 // Runs a sheet, line after line, through a book.
 pub fn score<B: Book>(heap: Global, book: &mut B, text: &[u8]) -> Result<Scored, AllocError>
-    ensures made { IfOk result (λ s. (s.at ≡ (sheet model (pages book.old) text.now).at) × (s.log.items ≡ (sheet model (pages book.old) text.now).log)) }
-    ensures pages { is_ok result ≡ true → pages book.new ≡ (sheet model (pages book.old) text.now).pages }
+    ensures made { IfOk result (λ s. (s.at ≡ (sheet B.model (B.pages book.old) text.now).at) × (s.log.items ≡ (sheet B.model (B.pages book.old) text.now).log)) }
+    ensures pages { is_ok result ≡ true → B.pages book.new ≡ (sheet B.model (B.pages book.old) text.now).pages }
 {
     let mut log = Vec::new(heap);
     let mut at = start_of_sheet();

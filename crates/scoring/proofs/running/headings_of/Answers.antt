@@ -9,9 +9,9 @@ loop-rest-preserved c =
     let at = c.loop-rest.at in
     let text = c.loop-rest.rest.now in
     let some : 0 < length text = search rules in
-    let new : c.note-heading.new.at ≡ progress_after at (line_of text) =
-    c.note-heading.ensures ∙ ap (progress_by at) c.read-line-reading.ensures ∙ ap (progress_after at) c.first-line-cut.ensures.line in
-    ap₂ (λ x later. fold progress_after x (lines later)) new c.first-line-cut.ensures.rest ∙ sym (first_heading at text some) ∙ c.loop-rest.invariant
+    let new : c.note_heading.new.at ≡ progress_after at (line_of text) =
+    c.note_heading.ensures ∙ ap (progress_by at) c.read_line-reading.ensures ∙ ap (progress_after at) c.first_line-cut.ensures.line in
+    ap₂ (λ x later. fold progress_after x (lines later)) new c.first_line-cut.ensures.rest ∙ sym (first_heading at text some) ∙ c.loop-rest.invariant
 
 pub returns : goal.returns
 returns c =
