@@ -11,15 +11,15 @@ bounds-post-place c =
     let b = sym (named _ c.loop-h.h c.loop-h-test.true) ∙ sym c.has.ensures ∙ c.if-has.true in
     omega (arith, room c.args.draft c.args.operations c.loop-h.h b, c.loop-h.invariant.1, c.loop-h.auto.post, c.requires)
 
-pub offset-bounds-post-place : goal.offset-bounds-post-place
-offset-bounds-post-place c =
+pub offset_bounds-post-place : goal.offset_bounds-post-place
+offset_bounds-post-place c =
     let b = sym (named _ c.loop-h.h c.loop-h-test.true) ∙ sym c.has.ensures ∙ c.if-has.true in
     let r = room c.args.draft c.args.operations c.loop-h.h b in
     let i : c.loop-h.place < length c.loop-h.post = omega (arith, r, c.loop-h.invariant.1, c.loop-h.auto.post, c.requires) in
     search rules
 
-pub overflow-add-place : goal.overflow-add-place
-overflow-add-place c =
+pub overflow_add-place : goal.overflow_add-place
+overflow_add-place c =
     let b = sym (named _ c.loop-h.h c.loop-h-test.true) ∙ sym c.has.ensures ∙ c.if-has.true in
     let r = room c.args.draft c.args.operations c.loop-h.h b in
     let i : c.loop-h.place < length c.loop-h.post = omega (arith, r, c.loop-h.invariant.1, c.loop-h.auto.post, c.requires) in

@@ -7,5 +7,5 @@ pub returns : goal.returns
 returns c = record {
   step = search rules;
   refused = tt;
-  kept = clock_keeps (view c.args.self.now) c.args.hall c.args.time c.set-time.new.hall c.set-time.ensures;
+  kept = clock_keeps (view c.args.self.now) c.args.hall c.args.time c.set_time.new.hall c.set_time.ensures;
 }
