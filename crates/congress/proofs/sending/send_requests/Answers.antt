@@ -1,10 +1,9 @@
-use Rattle.std.proofs.Common.{◌≡◌, ◌+◌, ◌<◌, length, get_or, set, sym, ap, ◌∙◌, ap₂, arith, rules}
-use lib.Seq.{sets}
+use Rattle.std.proofs.Common.{◌≡◌, ◌+◌, ◌<◌, length, sym, ap, ◌∙◌, arith, rules}
+use Rattle.std.proofs.lemmas.List.Edits.{sets}
 use Rattle.congress.proofs.Sent.{named, room, few_sent, sends, sends_count, passes, requests_is}
 use Rattle.congress.proofs.sending.send_requests.Goals as goal
 use Rattle.congress.proofs.sending.send_requests.Goals.{then-has, else-has}
-use Rattle.congress.specs.Sending.{requests_below, to_hall, no_operation}
-use Rattle.records.specs.declared.messages.Message.TheVariants.{Request as request}
+use Rattle.congress.specs.Sending.{requests_below}
 
 pub bounds-post-place : goal.bounds-post-place
 bounds-post-place c =
@@ -36,10 +35,7 @@ loop-h-preserved c =
     elim c.if-has.branch [
       | then-has w ↦
           let b = is ∙ w.if-has.true in
-          let x = request (to_hall d h (get_or os h no_operation)) in (
-            w.post-is ∙ ap₂ (λ l k. set l k x) c.loop-h.invariant.0 c.loop-h.invariant.1 ∙ sends d os p at h b,
-            w.place-is ∙ ap (λ k. k + 1) c.loop-h.invariant.1 ∙ sends_count d os p at h b,
-          )
+          grind (arith, sends d os p at h b, sends_count d os p at h b)
       | else-has w ↦
           let same = passes d os h (is ∙ w.if-has.false) in (
             w.post-is ∙ c.loop-h.invariant.0 ∙ ap (sets p at) same,
