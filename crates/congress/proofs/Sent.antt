@@ -1,7 +1,7 @@
 -- The requests that are sent, and the places they take.
 use Rattle.std.proofs.Common.{◌≡◌, ℕ, zero, suc, ◌+◌, ◌/◌, ◌^◌, ◌<◌, ◌≤◌, true, false, ◌&&◌, List, [], ◌∷◌, ◌++◌, length, get_or, set, sym, refl, ap, ◌∙◌, inl, inr, append-nil, add-zero, add-one, arith}
-use lib.Count.{ones, ones_step}
-use lib.Seq.{sets}
+use Rattle.std.specs.Int.Count.{ones, ones_step}
+use Rattle.std.proofs.lemmas.List.Edits.{sets}
 use Rattle.congress.specs.Sending.{to_hall, no_operation, requests_below, requests}
 use Rattle.records.specs.Halls.{bit, names}
 use Rattle.records.specs.declared.Operation.{Operation}

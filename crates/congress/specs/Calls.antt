@@ -11,7 +11,6 @@ use Rattle.records.specs.Halls.{fit}
 use Rattle.records.specs.Messages.{transaction_of}
 use Rattle.records.specs.Transactions.{number_of}
 use Rattle.records.specs.declared.Operation.{Operation}
-use Rattle.records.specs.declared.messages.Message.TheVariants as Message
 use Rattle.records.specs.declared.messages.Message.{Message}
 use Rattle.records.specs.declared.messages.Request.{Request}
 

@@ -2,7 +2,6 @@
 use Rattle.std.specs.Prelude.{ℕ, zero, suc, cond, List, [], ◌∷◌, ◌++◌, pos, slice_index_or}
 use Rattle.records.specs.Halls.{bit}
 use Rattle.records.specs.declared.Operation.{Operation}
-use Rattle.records.specs.declared.messages.Message.TheVariants as Message
 use Rattle.records.specs.declared.messages.Message.{Message}
 use Rattle.records.specs.declared.messages.Request.{Request}
 

@@ -17,6 +17,7 @@ use records::{
 // At most so many places of a post are used.
 const POST_PLACES: usize = 1024;
 
+#[tactic(auto, unfolding(crate::specs::State::new_hall))]
 fn new_hall() -> Hall
     ensures { result ≡ new_hall }
 {
@@ -61,6 +62,7 @@ fn begin_next(console: &mut Console, halls: u8) -> u32
 
 impl Tables {
     // The tables of a congress not yet opened.
+    #[tactic(auto, unfolding(crate::specs::State::new_halls, crate::specs::State::new_consoles))]
     pub(crate) fn new() -> Tables
         ensures { view result ≡ fresh 0 }
     {
@@ -94,6 +96,7 @@ impl Tables {
     }
 
     // Empties the tables for so many halls.
+    #[tactic(auto, unfolding(crate::specs::State::new_halls, crate::specs::State::new_consoles))]
     pub(crate) fn open(&mut self, number: u8) -> Result<(), Refusal>
         ensures step { (result, view self.new) ≡ open_step (view self.old) number }
         ensures refused { Untouched result (view self.old) (view self.new) }
@@ -136,8 +139,8 @@ impl Tables {
         operations: [Operation; 8],
     ) -> u32
         requires console_bound { console < 16 }
-        requires console_bound_2 { (console_at (view self.old) console).sequence < 1048576 }
-        requires halls_bound { self.old.count + count_ones halls ≤ min (length post.old) 1024 }
+        requires sequence_bound { (console_at (view self.old) console).sequence < 1048576 }
+        requires room { self.old.count + count_ones halls ≤ min (length post.old) 1024 }
         ensures number { result ≡ number_of ((console_at (view self.old) console).sequence + 1) console }
         ensures world { world (view self.new) post.new ≡ issued (world (view self.old) post.old) console class halls operations }
         ensures kept { kept (view self.old) ≡ true → kept (view self.new) ≡ true }

@@ -1,5 +1,6 @@
 // Makes one morning's calls at a congress, and prints what each said and what the post then holds.
 #![tactic(auto)]
+
 mod calls;
 mod words;
 

@@ -1,25 +1,24 @@
-use Rattle.std.proofs.Common.{◌≡◌, ◌+◌, ◌<◌, length, get_or, set, sym, ap, ◌∙◌, ap₂, arith, rules}
-use lib.Seq.{sets}
+use Rattle.std.proofs.Common.{◌≡◌, ◌+◌, ◌<◌, length, sym, ap, ◌∙◌, arith, rules}
+use Rattle.std.proofs.lemmas.List.Edits.{sets}
 use Rattle.congress.proofs.Sent.{named, room, few_sent, sends, sends_count, passes, requests_is}
 use Rattle.congress.proofs.sending.send_requests.Goals as goal
 use Rattle.congress.proofs.sending.send_requests.Goals.{then-has, else-has}
-use Rattle.congress.specs.Sending.{requests_below, to_hall, no_operation}
-use Rattle.records.specs.declared.messages.Message.TheVariants.{Request as request}
+use Rattle.congress.specs.Sending.{requests_below}
 
 pub bounds-post-place : goal.bounds-post-place
 bounds-post-place c =
     let b = sym (named _ c.loop-h.h c.loop-h-test.true) ∙ sym c.has.ensures ∙ c.if-has.true in
     omega (arith, room c.args.draft c.args.operations c.loop-h.h b, c.loop-h.invariant.1, c.loop-h.auto.post, c.requires)
 
-pub offset-bounds-post-place : goal.offset-bounds-post-place
-offset-bounds-post-place c =
+pub offset_bounds-post-place : goal.offset_bounds-post-place
+offset_bounds-post-place c =
     let b = sym (named _ c.loop-h.h c.loop-h-test.true) ∙ sym c.has.ensures ∙ c.if-has.true in
     let r = room c.args.draft c.args.operations c.loop-h.h b in
     let i : c.loop-h.place < length c.loop-h.post = omega (arith, r, c.loop-h.invariant.1, c.loop-h.auto.post, c.requires) in
     search rules
 
-pub overflow-add-place : goal.overflow-add-place
-overflow-add-place c =
+pub overflow_add-place : goal.overflow_add-place
+overflow_add-place c =
     let b = sym (named _ c.loop-h.h c.loop-h-test.true) ∙ sym c.has.ensures ∙ c.if-has.true in
     let r = room c.args.draft c.args.operations c.loop-h.h b in
     let i : c.loop-h.place < length c.loop-h.post = omega (arith, r, c.loop-h.invariant.1, c.loop-h.auto.post, c.requires) in
@@ -36,10 +35,7 @@ loop-h-preserved c =
     elim c.if-has.branch [
       | then-has w ↦
           let b = is ∙ w.if-has.true in
-          let x = request (to_hall d h (get_or os h no_operation)) in (
-            w.post-is ∙ ap₂ (λ l k. set l k x) c.loop-h.invariant.0 c.loop-h.invariant.1 ∙ sends d os p at h b,
-            w.place-is ∙ ap (λ k. k + 1) c.loop-h.invariant.1 ∙ sends_count d os p at h b,
-          )
+          grind (arith, sends d os p at h b, sends_count d os p at h b)
       | else-has w ↦
           let same = passes d os h (is ∙ w.if-has.false) in (
             w.post-is ∙ c.loop-h.invariant.0 ∙ ap (sets p at) same,

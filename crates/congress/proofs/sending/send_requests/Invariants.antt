@@ -1,5 +1,5 @@
 use Rattle.std.proofs.Common.{◌≡◌, ◌+◌, length}
-use lib.Seq.{sets}
+use Rattle.std.proofs.lemmas.List.Edits.{sets}
 use Rattle.congress.proofs.sending.send_requests.Given as goal
 use Rattle.congress.specs.Sending.{requests_below}
 

@@ -1,7 +1,0 @@
-use Rattle.std.proofs.Common.{rules}
-use Rattle.congress.proofs.tables.Tables.open.Goals as goal
-use Rattle.congress.specs.State.{new_halls, new_consoles}
-
-pub returns : goal.returns
-unfolding new_halls new_consoles
-returns c = search rules
