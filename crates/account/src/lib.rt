@@ -1,5 +1,6 @@
 // Scores the sheet on standard input, in the book that its headings ask for, and prints the account.
 #![tactic(auto)]
+
 mod printing;
 mod words;
 

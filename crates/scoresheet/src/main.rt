@@ -1,5 +1,6 @@
 // Scores one hall's sheet from standard input and prints the account.
 #![tactic(auto)]
+
 use account::score_input;
 use std::io;
 

@@ -1,5 +1,6 @@
 // The same program as scoresheet, kept with a long sheet of odd operations, so that the gate runs it on both.
 #![tactic(auto)]
+
 use account::score_input;
 use std::io;
 
