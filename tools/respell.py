@@ -3,11 +3,11 @@
 
 usage: python3 tools/respell.py        at the top of the repository, once, right after the kit's port.py
 
-Functions, lemmas and fields get snake case, types and statements camel case; a lemma about the length of a definition, or
-about its elements, joins the two names by a dash, as the library does. Names that Rattle makes of the code (loops, returns,
-calls) are left alone. Fourteen clauses that bound their result by a lambda, since a definition had the name `result`, say
-`result` now, and that definition is called `result_of`. Fifteen definitions now have the very name of a function of src/,
-which none of them shares with another definition: `--look` lists them, and changes nothing.
+Functions, lemmas and fields get snake case, types and statements camel case; six lemmas whose names join a word of the library
+and another name keep the dash between them, as the library does. Names that Rattle makes of the code (loops, returns, calls)
+are left alone, but for `at-before`, which was turned by mistake and then turned back by hand. Fourteen clauses that bound their result by a lambda, since a definition had the name `result`, say
+`result` now, and that definition is called `result_of`. Fifteen of the new names are the very name of some function of
+src/, and none is that of another definition: `--look` lists them, and changes nothing.
 """
 
 import glob
