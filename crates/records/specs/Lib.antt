@@ -4,3 +4,4 @@ pub mod Classes
 pub mod Halls
 pub mod Messages
 pub mod Finder
+pub mod Below

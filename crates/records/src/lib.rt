@@ -4,12 +4,14 @@
 ghost use Rattle.std.specs.Prelude.{◌≡◌};
 ghost use Rattle.records.specs.Answers.{done_with, fault_at, well_done};
 
+mod below;
 mod classes;
 mod finder;
 mod halls;
 mod messages;
 mod transactions;
 
+pub use below::Below;
 pub use classes::{Class, Status, class_of, status_of};
 pub use finder::{Bears, first_from};
 pub use halls::{count_of, fits, has};
@@ -20,7 +22,7 @@ pub use transactions::{
 };
 
 // What a book is asked to do, by whom and with which numbers.
-#[derive(Clone, Copy)]
+#[derive(Clone, Copy, Debug, Default, PartialEq, Eq, Hash)]
 pub struct Operation {
     pub kind: u8,
     pub grant: u8,
@@ -32,7 +34,7 @@ pub struct Operation {
 }
 
 // What a book says to an operation: well done with place 0, or a fault with value 0.
-#[derive(Clone, Copy)]
+#[derive(Clone, Copy, Debug, Default, PartialEq, Eq, Hash)]
 pub struct Answer {
     pub layer: u8,
     pub cause: u8,
