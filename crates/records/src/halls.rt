@@ -2,7 +2,7 @@
 ghost use Rattle.std.specs.Prelude.{◌≡◌, ◌<◌, ◌≤◌, count_ones};
 ghost use Rattle.records.specs.Halls.{bit, names, exist, fit_class, fit};
 
-use super::classes::{Class, class_of};
+use super::classes::Class;
 
 fn has_bit(halls: u8, hall: u8) -> bool
     requires { hall < 8 }
@@ -47,5 +47,5 @@ fn fits_class(class: Option<Class>, halls: u8) -> bool
 pub fn fits(open: u8, class: u8, halls: u8) -> bool
     ensures { result ≡ fit «open» class halls }
 {
-    all_exist(open, halls) && fits_class(class_of(class), halls)
+    all_exist(open, halls) && fits_class(Class::try_from(class).ok(), halls)
 }

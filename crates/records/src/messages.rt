@@ -2,17 +2,18 @@
 ghost use Rattle.std.specs.Prelude.{◌≡◌};
 ghost use Rattle.records.specs.Messages.{transaction_of, status as status_number, request_lawful, vote_lawful, reply_lawful, lawful};
 
-use super::classes::status_of;
+use super::classes::Status;
 use super::finder::Bears;
 use super::halls::{fits, has};
 use super::transactions::{LAST_STAMP, is_stamp, is_transaction};
 use super::{Answer, Operation};
 
 // A console asks a hall to do its part of a transaction.
-#[derive(Clone, Copy)]
+#[derive(Clone, Copy, Debug, Default, PartialEq, Eq, Hash)]
 pub struct Request {
     pub transaction: u32,
     pub to: u8,
+    // a number and no Class, since a message that comes by wire may have any
     pub class: u8,
     pub halls: u8,
     // the highest stamp replied to the console
@@ -21,26 +22,28 @@ pub struct Request {
 }
 
 // A hall tells another what it says of a transaction.
-#[derive(Clone, Copy)]
+#[derive(Clone, Copy, Debug, PartialEq, Eq, Hash)]
 pub struct Vote {
     pub transaction: u32,
     pub from: u8,
     pub to: u8,
     pub stamp: u64,
+    // a number and no Status, likewise
     pub status: u8,
 }
 
 // A hall tells the console what came of its part.
-#[derive(Clone, Copy)]
+#[derive(Clone, Copy, Debug, PartialEq, Eq, Hash)]
 pub struct Reply {
     pub transaction: u32,
     pub from: u8,
     pub stamp: u64,
+    // a number and no Status, likewise
     pub status: u8,
     pub answer: Answer,
 }
 
-#[derive(Clone, Copy)]
+#[derive(Clone, Copy, Debug, PartialEq, Eq, Hash)]
 pub enum Message {
     Request(Request),
     Vote(Vote),
@@ -62,7 +65,7 @@ impl Bears for Message {
 fn is_status(number: u8) -> bool
     ensures { result ≡ status_number number }
 {
-    status_of(number).is_some()
+    Status::try_from(number).is_ok()
 }
 
 fn is_lawful_request(open: u8, request: Request) -> bool
