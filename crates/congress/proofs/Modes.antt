@@ -2,7 +2,8 @@
 use Rattle.std.proofs.Common.{◌≡◌, ℕ, zero, suc, true, List, [], ◌∷◌, map, get_or, set, refl, ap, ◌∙◌}
 use Rattle.congress.specs.Calls.{at_time}
 use Rattle.congress.specs.Kept.{mode_of, kept_entries, kept}
-use Rattle.congress.specs.State.{State, no_hall, hall_at, with_hall}
+use Rattle.congress.specs.State.{no_hall}
+use Rattle.congress.specs.declared.tables.Entry.{Entry}
 use Rattle.congress.specs.declared.tables.Hall.{Hall}
 use Rattle.congress.specs.declared.tables.Mode.TheVariants.{Timestamp}
 use Rattle.std.proofs.lemmas.List.{map-set, set-get_or}
@@ -18,6 +19,5 @@ modes_stay halls h time =
     ∙ ap (set (map mode_of halls) h) (mode_at halls h)
     ∙ set-get_or (map mode_of halls) h Timestamp
 
-pub clock_keeps : (s : State) (h time : ℕ) (x : Hall) → x ≡ at_time (hall_at s h) time → kept s ≡ true → kept (with_hall s h x) ≡ true
-clock_keeps s h time x is k =
-    ap (λ y. kept (with_hall s h y)) is ∙ ap (λ modes. kept_entries modes s.entries) (modes_stay s.halls h time) ∙ k
+pub clock_keeps : (halls : List Hall) (entries : List Entry) (h time : ℕ) → kept halls entries ≡ true → kept (set halls h (at_time (get_or halls h no_hall) time)) entries ≡ true
+clock_keeps halls entries h time k = ap (λ modes. kept_entries modes entries) (modes_stay halls h time) ∙ k
