@@ -68,34 +68,40 @@ fn is_status(number: u8) -> bool
     Status::try_from(number).is_ok()
 }
 
-fn is_lawful_request(open: u8, request: Request) -> bool
-    ensures { result ≡ request_lawful «open» request }
-{
-    is_transaction(request.transaction)
-        && request.to < open
-        && fits(open, request.class, request.halls)
-        && has(request.halls, request.to)
-        && request.high <= LAST_STAMP
+impl Request {
+    fn is_lawful(self, open: u8) -> bool
+        ensures { result ≡ request_lawful «open» self }
+    {
+        is_transaction(self.transaction)
+            && self.to < open
+            && fits(open, self.class, self.halls)
+            && has(self.halls, self.to)
+            && self.high <= LAST_STAMP
+    }
 }
 
-fn is_lawful_vote(open: u8, vote: Vote) -> bool
-    ensures { result ≡ vote_lawful «open» vote }
-{
-    is_transaction(vote.transaction)
-        && vote.from < open
-        && vote.to < open
-        && vote.from != vote.to
-        && is_stamp(vote.stamp)
-        && is_status(vote.status)
+impl Vote {
+    fn is_lawful(self, open: u8) -> bool
+        ensures { result ≡ vote_lawful «open» self }
+    {
+        is_transaction(self.transaction)
+            && self.from < open
+            && self.to < open
+            && self.from != self.to
+            && is_stamp(self.stamp)
+            && is_status(self.status)
+    }
 }
 
-fn is_lawful_reply(open: u8, reply: Reply) -> bool
-    ensures { result ≡ reply_lawful «open» reply }
-{
-    is_transaction(reply.transaction)
-        && reply.from < open
-        && is_stamp(reply.stamp)
-        && is_status(reply.status)
+impl Reply {
+    fn is_lawful(self, open: u8) -> bool
+        ensures { result ≡ reply_lawful «open» self }
+    {
+        is_transaction(self.transaction)
+            && self.from < open
+            && is_stamp(self.stamp)
+            && is_status(self.status)
+    }
 }
 
 // Whether a message is one that a congress with so many open halls could have sent.
@@ -103,8 +109,8 @@ pub fn is_lawful(open: u8, message: Message) -> bool
     ensures { result ≡ lawful «open» message }
 {
     match message {
-        Message::Request(request) => is_lawful_request(open, request),
-        Message::Vote(vote) => is_lawful_vote(open, vote),
-        Message::Reply(reply) => is_lawful_reply(open, reply),
+        Message::Request(request) => request.is_lawful(open),
+        Message::Vote(vote) => vote.is_lawful(open),
+        Message::Reply(reply) => reply.is_lawful(open),
     }
 }
