@@ -1,18 +1,16 @@
 // The calls of a congress.
-ghost use Rattle.std.specs.Prelude.{◌≡◌, ◌+◌, ◌<◌, ◌≤◌, min, length, count_ones};
-ghost use Rattle.congress.specs.Calls.{Untouched, open_step, clock_step, opened_for, issued, issue_step, drop_step, find_answer};
+ghost use Rattle.std.specs.Prelude.{◌≡◌, ◌+◌, ◌<◌, cond};
+ghost use Rattle.congress.specs.Calls.{Untouched, open_step, clock_step, opened_for, issue_step, drop_step, find_answer};
 ghost use Rattle.congress.specs.Entries.{entry_transaction};
 ghost use Rattle.congress.specs.Meaning.{state, with_post};
-ghost use Rattle.congress.specs.State.{fresh, console_at};
+ghost use Rattle.congress.specs.State.{fresh, short};
 ghost use Rattle.records.specs.Finder.{first_in};
-ghost use Rattle.records.specs.Transactions.{number_of};
 
 use super::refusals::Refusal;
 use super::state::Congress;
 use super::tables::{Console, Entry, Hall, Opened};
 use records::{
-    Below, CONSOLES, LAST_SEQUENCE, LAST_STAMP, Message, Operation, Request, count_of, first_from,
-    fits,
+    CONSOLES, LAST_SEQUENCE, LAST_STAMP, Message, Operation, Request, count_of, first_from, fits,
 };
 
 // At most so many places of a post are used.
@@ -60,34 +58,14 @@ impl Congress {
         Ok(())
     }
 
-    // Opens the next transaction of a console and sends its requests; answers its number.
-    fn begin(
-        &mut self,
-        post: &mut [Message],
-        console: Below<16>,
-        class: u8,
-        halls: u8,
-        operations: [Operation; 8],
-    ) -> u32
-        requires sequence_bound { (console_at (state self.old) console).sequence < 1048576 }
-        requires room { self.old.count + count_ones halls ≤ min (length post.old) 1024 }
-        ensures number { result ≡ number_of ((console_at (state self.old) console).sequence + 1) console }
-        ensures world { with_post self.new post.new ≡ issued (with_post self.old post.old) console class halls operations }
+    // A post has places for as many messages as are counted.
+    fn check_post(&self, post: &[Message]) -> Result<(), Refusal>
+        ensures { result ≡ cond (short (with_post self.now post.now)) (Err Refusal.ShortPost) (Ok tt) }
     {
-        let place = console.get();
-        let high = self.consoles[place].high;
-        let sequence = self.consoles[place].begin_next(halls);
-        let transaction = sequence * u32::from(CONSOLES) + place as u32;
-        let draft = Request {
-            transaction,
-            to: 0,
-            class,
-            halls,
-            high,
-            operation: operations[0],
-        };
-        self.send_requests(post, draft, operations);
-        transaction
+        if post.len() < self.count {
+            return Err(Refusal::ShortPost);
+        }
+        Ok(())
     }
 
     // Opens a console's next transaction: requests go into the post, and its number is answered.
@@ -103,11 +81,11 @@ impl Congress {
         ensures step { (result, with_post self.new post.new) ≡ issue_step (with_post self.old post.old) console class halls operations }
         ensures refused { Untouched result (with_post self.old post.old) (with_post self.new post.new) }
     {
-        if post.len() < self.count {
-            return Err(Refusal::ShortPost);
+        self.check_post(post)?;
+        if console >= CONSOLES {
+            return Err(Refusal::NotThere);
         }
-        let console = Below::new(usize::from(console)).ok_or(Refusal::NotThere)?;
-        let old = self.consoles[console.get()];
+        let old = self.consoles[console as usize];
         if old.transaction.is_some() {
             return Err(Refusal::Busy);
         }
@@ -120,7 +98,18 @@ impl Congress {
         if post.len().min(POST_PLACES) < self.count + count_of(halls) as usize {
             return Err(Refusal::NoRoom);
         }
-        Ok(self.begin(post, console, class, halls, operations))
+        let sequence = self.consoles[console as usize].begin_next(halls);
+        let transaction = sequence * u32::from(CONSOLES) + u32::from(console);
+        let draft = Request {
+            transaction,
+            to: 0,
+            class,
+            halls,
+            high: old.high,
+            operation: operations[0],
+        };
+        self.send_requests(post, draft, operations);
+        Ok(transaction)
     }
 
     // Sets the clock of a hall; a caller may give any number for one.
@@ -143,9 +132,7 @@ impl Congress {
         ensures step { (result, with_post self.new post.new) ≡ drop_step (with_post self.old post.old) place }
         ensures refused { Untouched result (with_post self.old post.old) (with_post self.new post.new) }
     {
-        if post.len() < self.count {
-            return Err(Refusal::ShortPost);
-        }
+        self.check_post(post)?;
         if place >= self.count {
             return Err(Refusal::NotThere);
         }
@@ -158,9 +145,7 @@ impl Congress {
     pub fn find(&self, post: &[Message], number: u32) -> Result<Option<usize>, Refusal>
         ensures { result ≡ find_answer (with_post self.now post.now) number }
     {
-        if post.len() < self.count {
-            return Err(Refusal::ShortPost);
-        }
+        self.check_post(post)?;
         Ok(first_from(&post[..self.count], 0, number))
     }
 
