@@ -50,7 +50,7 @@ impl Congress {
         ensures step { (result, state self.new) ≡ open_step (state self.old) number }
         ensures refused { Untouched result (state self.old) (state self.new) }
     {
-        if number == 0 || number > 8 {
+        if !(1..=8).contains(&number) {
             return Err(Refusal::BadHalls);
         }
         *self = Congress::new();
@@ -82,10 +82,10 @@ impl Congress {
         ensures refused { Untouched result (with_post self.old post.old) (with_post self.new post.new) }
     {
         self.check_post(post)?;
-        if console >= CONSOLES {
-            return Err(Refusal::NotThere);
-        }
-        let old = self.consoles[console as usize];
+        let old = *self
+            .consoles
+            .get(console as usize)
+            .ok_or(Refusal::NotThere)?;
         if old.transaction.is_some() {
             return Err(Refusal::Busy);
         }
@@ -112,7 +112,8 @@ impl Congress {
         Ok(transaction)
     }
 
-    // Sets the clock of a hall; a caller may give any number for one.
+    // Sets the clock of a hall, whose mode stays; a caller may give any number for one.
+    #[tactic(auto, using(crate::proofs::Modes::modes_stay))]
     pub fn set_clock(&mut self, hall: u8, time: u64) -> Result<(), Refusal>
         ensures step { (result, state self.new) ≡ clock_step (state self.old) hall time }
         ensures refused { Untouched result (state self.old) (state self.new) }

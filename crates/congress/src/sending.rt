@@ -18,6 +18,7 @@ impl Congress {
     }
 
     // The requests of a draft go to the end of the post, ascending by hall.
+    #[tactic(auto, using(crate::proofs::Sent::named, crate::proofs::Sent::room, crate::proofs::Sent::requests_is))]
     pub(crate) fn send_requests(
         &mut self,
         post: &mut [Message],

@@ -1,6 +1,6 @@
 // The words of the account.
 use super::calls::{Call, Said};
-use records::{Message, has};
+use records::{Message, Operation, Reply, Request, Vote, has};
 use std::fmt;
 
 // The halls of a set, each after a space.
@@ -54,30 +54,37 @@ pub struct Listed(pub Message);
 impl fmt::Display for Listed {
     fn fmt<W: fmt::Write>(&self, f: &mut fmt::Formatter<W>) -> fmt::Result {
         match self.0 {
-            Message::Request(request) => {
-                let number = request.transaction;
-                let to = request.to;
-                let class = request.class;
-                let halls = Halls(request.halls);
-                let high = request.high;
-                let kind = request.operation.kind;
-                let a = request.operation.a;
+            Message::Request(
+                Request {
+                    transaction,
+                    to,
+                    class,
+                    halls,
+                    high,
+                    operation: Operation { kind, a, .. },
+                },
+            ) => {
+                let halls = Halls(halls);
                 write!(
                     f,
-                    "request {number} to hall {to}, class {class}, halls{halls}, high {high}: kind {kind}, a {a}"
+                    "request {transaction} to hall {to}, class {class}, halls{halls}, high {high}: kind {kind}, a {a}"
                 )
             }
-            Message::Vote(vote) => {
-                let number = vote.transaction;
-                let from = vote.from;
-                let to = vote.to;
-                write!(f, "vote {number} from hall {from} to hall {to}")
-            }
-            Message::Reply(reply) => {
-                let number = reply.transaction;
-                let from = reply.from;
-                write!(f, "reply {number} from hall {from}")
-            }
+            Message::Vote(
+                Vote {
+                    transaction,
+                    from,
+                    to,
+                    ..
+                },
+            ) => write!(f, "vote {transaction} from hall {from} to hall {to}"),
+            Message::Reply(
+                Reply {
+                    transaction,
+                    from,
+                    ..
+                },
+            ) => write!(f, "reply {transaction} from hall {from}"),
         }
     }
 }
