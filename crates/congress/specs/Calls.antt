@@ -1,5 +1,6 @@
 -- What each call answers, and what it leaves.
 use Rattle.std.specs.Prelude.{◌≡◌, ℕ, ◌+◌, ◌-◌, ◌^◌, cond, not, ◌||◌, List, Ok, Err, Some, Option, is_some, Result, ◌==◌, count_ones, nat_le, nat_lt, slice_index_or, slice_set}
+use Rattle.std.specs.Result.{OnErr}
 use Rattle.congress.specs.Sending.{requests, no_operation}
 use Rattle.congress.specs.State.{State, World, world, fresh, hall_at, with_hall, console_at, with_console, with_count, short, lacks_room, messages, posting}
 use Rattle.congress.specs.declared.refusals.Refusal.TheVariants.{NotThere, Busy, BadHalls, UsedUp, TooLate, NoRoom, ShortPost}
@@ -16,8 +17,7 @@ use Rattle.records.specs.declared.messages.Request.{Request}
 
 -- a refusal leaves all as it was
 abbrev pub Untouched : {A W : Type 0} → Result A Refusal → W → W → Type 0
-Untouched (Ok _) before after = Unit {0}
-Untouched (Err _) before after = after ≡ before
+Untouched r before after = OnErr r (after ≡ before)
 
 -- Open: 1 to 8 halls
 abbrev pub open_step : State → ℕ → Result (Unit {0}) Refusal × State

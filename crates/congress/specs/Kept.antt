@@ -1,5 +1,6 @@
 -- What every congress keeps, besides its bounds of 8 halls, 64 entries and 1,024 messages.
 use Rattle.std.specs.Prelude.{Bool, true, false, not, ◌&&◌, ◌||◌, List, [], ◌∷◌, map, ◌==◌, bit_and, bit_or, slice_index_or}
+use Rattle.std.specs.List.{list_all}
 use Rattle.congress.specs.declared.tables.Entry.{Entry}
 use Rattle.congress.specs.declared.tables.Hall.{Hall}
 use Rattle.congress.specs.declared.tables.Mode.TheVariants.{Timestamp, Locking}
@@ -29,13 +30,9 @@ suits modes e = not (coordinated e.class) || locks (slice_index_or modes e.hall 
 abbrev pub apart : Entry → Entry → Bool
 apart x y = not (x.hall == y.hall) || (not (x.transaction == y.transaction) && bit_and x.keys y.keys == 0)
 
-abbrev pub apart_from_all : Entry → List Entry → Bool
-apart_from_all x [] = true
-apart_from_all x (y ∷ ys) = apart x y && apart_from_all x ys
-
 abbrev pub kept_entries : List Mode → List Entry → Bool
 kept_entries modes [] = true
-kept_entries modes (e ∷ es) = voted e && (suits modes e && (apart_from_all e es && kept_entries modes es))
+kept_entries modes (e ∷ es) = voted e && (suits modes e && (list_all (apart e) es && kept_entries modes es))
 
 abbrev pub mode_of : Hall → Mode
 mode_of hall = hall.mode

@@ -6,10 +6,10 @@ use super::tables::{Console, Entry, Hall};
 
 #[derive(Drop)]
 pub struct Congress {
+    // its first `opened` halls are open, and the first `waiting` places of its queue in use: memory is fixed, with no heap for lists
     pub(crate) opened: u8,
     pub(crate) halls: [Hall; 8],
     pub(crate) consoles: [Console; 16],
-    // its first `waiting` places are in use: there is no heap for a list that grows
     pub(crate) queue: [Entry; 64],
     pub(crate) waiting: usize,
     // a count and no slice, since the post is lent anew with each call

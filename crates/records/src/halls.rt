@@ -1,4 +1,4 @@
-// Sets of halls: bit h for hall h.
+// Sets of halls: bit h for hall h. A set is a plain number, as messages carry it; each number of 8 bits is a set.
 ghost use Rattle.std.specs.Prelude.{◌≡◌, ◌<◌, ◌≤◌, count_ones};
 ghost use Rattle.records.specs.Halls.{bit, names, exist, fit_class, fit};
 
