@@ -1,23 +1,15 @@
 -- The time of a hall does not touch its mode.
-use Rattle.std.proofs.Common.{◌≡◌, ℕ, zero, suc, true, List, [], ◌∷◌, map, get_or, set, refl, ap, ◌∙◌}
+use Rattle.std.proofs.Common.{◌≡◌, ℕ, List, map, get_or, set, sym, ap, ◌∙◌}
 use Rattle.congress.specs.Calls.{at_time}
-use Rattle.congress.specs.Kept.{mode_of, kept_entries, kept}
-use Rattle.congress.specs.State.{State, no_hall, hall_at, with_hall}
+use Rattle.congress.specs.Kept.{mode_of}
+use Rattle.congress.specs.State.{no_hall}
 use Rattle.congress.specs.declared.tables.Hall.{Hall}
 use Rattle.congress.specs.declared.tables.Mode.TheVariants.{Timestamp}
+use Rattle.std.proofs.Math.ListN.{get_or-map}
 use Rattle.std.proofs.lemmas.List.{map-set, set-get_or}
 
-mode_at : (halls : List Hall) (h : ℕ) → mode_of (get_or halls h no_hall) ≡ get_or (map mode_of halls) h Timestamp
-mode_at [] h = refl
-mode_at (x ∷ xs) zero = refl
-mode_at (x ∷ xs) (suc h) = mode_at xs h
-
-modes_stay : (halls : List Hall) (h time : ℕ) → map mode_of (set halls h (at_time (get_or halls h no_hall) time)) ≡ map mode_of halls
+pub modes_stay : (halls : List Hall) (h time : ℕ) → map mode_of (set halls h (at_time (get_or halls h no_hall) time)) ≡ map mode_of halls
 modes_stay halls h time =
     map-set mode_of halls h (at_time (get_or halls h no_hall) time)
-    ∙ ap (set (map mode_of halls) h) (mode_at halls h)
+    ∙ ap (set (map mode_of halls) h) (sym (get_or-map mode_of halls h no_hall))
     ∙ set-get_or (map mode_of halls) h Timestamp
-
-pub clock_keeps : (s : State) (h time : ℕ) (x : Hall) → x ≡ at_time (hall_at s h) time → kept s ≡ true → kept (with_hall s h x) ≡ true
-clock_keeps s h time x is k =
-    ap (λ y. kept (with_hall s h y)) is ∙ ap (λ modes. kept_entries modes s.entries) (modes_stay s.halls h time) ∙ k

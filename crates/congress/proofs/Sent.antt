@@ -1,7 +1,8 @@
 -- The requests that are sent, and the places they take.
-use Rattle.std.proofs.Common.{◌≡◌, ℕ, zero, suc, ◌+◌, ◌/◌, ◌^◌, ◌<◌, ◌≤◌, true, false, ◌&&◌, List, [], ◌∷◌, ◌++◌, length, get_or, set, sym, refl, ap, ◌∙◌, inl, inr, append-nil, add-zero, add-one, arith}
+use Rattle.std.proofs.Common.{◌≡◌, ℕ, zero, suc, ◌+◌, ◌/◌, ◌^◌, ◌<◌, true, false, ◌&&◌, List, [], ◌∷◌, ◌++◌, length, get_or, set, sym, refl, ap, ◌∙◌, inl, inr, append-nil, add-zero, add-one, arith}
 use Rattle.std.specs.Int.Count.{ones, ones_step}
 use Rattle.std.proofs.lemmas.List.Edits.{sets}
+use Rattle.congress.specs.State.{World, world, with_count, posting}
 use Rattle.congress.specs.Sending.{to_hall, no_operation, requests_below, requests}
 use Rattle.records.specs.Halls.{bit, names}
 use Rattle.records.specs.declared.Operation.{Operation}
@@ -18,12 +19,18 @@ sets_push l i (v ∷ vs) x =
     let e : suc i + length vs ≡ i + suc (length vs) = omega arith in
     sets_push (set l i v) (suc i) vs x ∙ ap (λ k. set (sets (set l i v) (suc i) vs) k x) e
 
+posting_push : (w : World) (ms : List Message) (m : Message) → posting (posting w ms) (m ∷ []) ≡ posting w (ms ++ (m ∷ []))
+posting_push w ms m =
+    let count : w.state.count + length ms + 1 ≡ w.state.count + length (ms ++ (m ∷ [])) = omega (arith, length_push ms m) in
+    ap (λ n. world (with_count w.state n) (set (sets w.post w.state.count ms) (w.state.count + length ms) m)) count
+    ∙ ap (λ post. world (with_count w.state (w.state.count + length (ms ++ (m ∷ [])))) post) (sym (sets_push w.post w.state.count ms m))
+
 pub named : (halls h : ℕ) → h < 8 → names halls h ≡ bit halls h
 named halls h inside = ap (λ b. b && bit halls h) (lt-ltb h 8 inside)
 
 module _ (d : Request) (os : List Operation) where
   -- the request to hall n
-  abbrev to : ℕ → Message
+  abbrev pub to : ℕ → Message
   to n = request (to_hall d n (get_or os n no_operation))
 
   next_in : (n : ℕ) → bit d.halls n ≡ true → requests_below d os (n + 1) ≡ requests_below d os n ++ (to n ∷ [])
@@ -57,13 +64,6 @@ module _ (d : Request) (os : List Operation) where
   unfolding requests
   requests_is = refl
 
-  -- no more are sent than halls are named
-  pub few_sent : (n : ℕ) → length (requests_below d os n) ≤ ones d.halls
-  few_sent n = omega (arith, sent_count n)
-
-  module _ (post : List Message) (at n : ℕ) (b : bit d.halls n ≡ true) where
-    pub sends : set (sets post at (requests_below d os n)) (at + length (requests_below d os n)) (to n) ≡ sets post at (requests_below d os (n + 1))
-    sends = sym (ap (sets post at) (next_in n b) ∙ sets_push post at (requests_below d os n) (to n))
-
-    pub sends_count : at + length (requests_below d os n) + 1 ≡ at + length (requests_below d os (n + 1))
-    sends_count = omega (arith, length_in n b)
+  -- a request more goes to the end of the post
+  pub sends : (w : World) (n : ℕ) → bit d.halls n ≡ true → posting (posting w (requests_below d os n)) (to n ∷ []) ≡ posting w (requests_below d os (n + 1))
+  sends w n b = posting_push w (requests_below d os n) (to n) ∙ ap (posting w) (sym (next_in n b))

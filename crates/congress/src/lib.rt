@@ -1,7 +1,6 @@
 // The coordinator of several halls: its tables, and the calls that change them.
 #![tactic(auto)]
 
-mod calls;
 mod congress;
 mod entries;
 mod refusals;

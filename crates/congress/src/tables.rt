@@ -1,16 +1,15 @@
-// What a congress holds: its halls, its consoles, the queue, and the count of messages in the post.
-ghost use Rattle.std.specs.Prelude.{◌≤◌};
-
-use records::Operation;
+// What stands in the tables of a congress: halls, consoles, and the parts that wait.
+use records::{Class, Operation};
 
 // How a hall takes parts: by stamp alone, or with keys held.
-#[derive(Clone, Copy)]
+#[derive(Clone, Copy, Debug, Default, PartialEq, Eq, Hash)]
 pub enum Mode {
+    #[default]
     Timestamp,
     Locking,
 }
 
-#[derive(Clone, Copy)]
+#[derive(Clone, Copy, Debug, Default, PartialEq, Eq, Hash)]
 pub struct Hall {
     pub clock: u64,
     // the highest stamp done
@@ -20,40 +19,32 @@ pub struct Hall {
     pub taken: [u32; 16],
 }
 
-#[derive(Clone, Copy)]
-pub struct Console {
-    // whether its last transaction is open
-    pub busy: bool,
-    pub sequence: u32,
+// The halls that a console's open transaction names, and those that have replied.
+#[derive(Clone, Copy, Debug, Default, PartialEq, Eq, Hash)]
+pub struct Opened {
     pub halls: u8,
     pub replied: u8,
+}
+
+#[derive(Clone, Copy, Debug, Default, PartialEq, Eq, Hash)]
+pub struct Console {
+    // none where the console is free
+    pub transaction: Option<Opened>,
+    // that of its last transaction
+    pub sequence: u32,
     // the highest stamp replied to it
     pub high: u64,
 }
 
 // A hall's part of a transaction that waits to be done.
-#[derive(Clone, Copy)]
+#[derive(Clone, Copy, Debug, Default, PartialEq, Eq, Hash)]
 pub struct Entry {
     pub hall: u8,
     pub transaction: u32,
-    pub class: u8,
+    pub class: Class,
     pub halls: u8,
     pub votes: u8,
     pub stamp: u64,
     pub keys: u64,
     pub operation: Operation,
-}
-
-#[derive(Drop)]
-pub struct Tables {
-    pub(crate) opened: u8,
-    pub(crate) halls: [Hall; 8],
-    pub(crate) consoles: [Console; 16],
-    // its first `waiting` places are in use
-    pub(crate) queue: [Entry; 64],
-    pub(crate) waiting: usize,
-    pub(crate) count: usize,
-    ghost few_halls: { opened ≤ 8 },
-    ghost few_entries: { waiting ≤ 64 },
-    ghost few_messages: { count ≤ 1024 },
 }

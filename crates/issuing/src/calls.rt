@@ -1,48 +1,75 @@
 // The morning's calls, and what a congress says to each.
 use congress::{Congress, Refusal};
-use records::{Message, Operation};
+use records::{Class, Message, Operation};
 
-#[derive(Clone, Copy)]
+// Numbers of consoles and halls are plain, since some of the calls are to be refused for them.
+#[derive(Clone, Copy, Debug, PartialEq, Eq, Hash)]
 pub enum Call {
     // how many halls
     Open(u8),
-    // console, class, halls
-    Issue(u8, u8, u8),
-    // hall, time
-    Clock(u8, u64),
-    // place
+    Issue {
+        console: u8,
+        class: Class,
+        halls: u8,
+    },
+    Clock {
+        hall: u8,
+        time: u64,
+    },
+    // a place in the post
     Drop(usize),
-    // transaction
+    // a transaction number
     Find(u32),
 }
 
-#[derive(Clone, Copy)]
+// What was said to a call that was not refused.
+#[derive(Clone, Copy, Debug, PartialEq, Eq, Hash)]
 pub enum Said {
     Done,
     Transaction(u32),
     Place(Option<usize>),
-    Refused(Refusal),
 }
 
 pub fn morning() -> [Call; 18] {
+    let two_halls_of_console_3 = Call::Issue {
+        console: 3,
+        class: Class::Independent,
+        halls: 0b0101,
+    };
+    let one_hall_of_console_0 = Call::Issue {
+        console: 0,
+        class: Class::Single,
+        halls: 0b0010,
+    };
     [
-        Call::Issue(3, 2, 0b0101),
+        two_halls_of_console_3,
         Call::Open(9),
         Call::Open(4),
-        Call::Clock(2, 9),
-        Call::Clock(4, 9),
-        Call::Clock(2, 0x1_0000_0000_0001),
-        Call::Issue(3, 2, 0b0101),
-        Call::Issue(3, 2, 0b0101),
-        Call::Issue(16, 1, 0b0001),
-        Call::Issue(5, 3, 0b1111),
-        Call::Issue(0, 1, 0b0010),
+        Call::Clock { hall: 2, time: 9 },
+        Call::Clock { hall: 4, time: 9 },
+        Call::Clock {
+            hall: 2,
+            time: 0x1_0000_0000_0001,
+        },
+        two_halls_of_console_3,
+        two_halls_of_console_3,
+        Call::Issue {
+            console: 16,
+            class: Class::Single,
+            halls: 0b0001,
+        },
+        Call::Issue {
+            console: 5,
+            class: Class::Coordinated,
+            halls: 0b1111,
+        },
+        one_hall_of_console_0,
         Call::Find(21),
         Call::Drop(0),
         Call::Find(19),
         Call::Find(21),
         Call::Drop(5),
-        Call::Issue(0, 1, 0b0010),
+        one_hall_of_console_0,
         Call::Find(37),
     ]
 }
@@ -51,49 +78,36 @@ pub fn morning() -> [Call; 18] {
 fn seat(h: u16) -> Operation {
     Operation {
         kind: 16,
-        grant: 0,
-        token: 0,
         a: h,
         b: 1,
         c: 2,
-        d: 0,
+        ..Operation::default()
     }
 }
 
-fn seats() -> [Operation; 8] {
-    [
-        seat(0),
-        seat(1),
-        seat(2),
-        seat(3),
-        seat(4),
-        seat(5),
-        seat(6),
-        seat(7),
-    ]
-}
-
-fn done_or(res: Result<(), Refusal>) -> Said {
-    match res {
-        Ok(_) => Said::Done,
-        Err(refusal) => Said::Refused(refusal),
-    }
-}
-
-pub fn make(congress: &mut Congress, post: &mut [Message], call: Call) -> Said {
+pub fn make(congress: &mut Congress, post: &mut [Message], call: Call) -> Result<Said, Refusal> {
     match call {
-        Call::Open(number) => done_or(congress.open(number)),
-        Call::Clock(hall, time) => done_or(congress.set_clock(hall, time)),
-        Call::Drop(place) => done_or(congress.drop_message(post, place)),
-        Call::Issue(console, class, halls) => {
-            match congress.issue(post, console, class, halls, seats()) {
-                Ok(number) => Said::Transaction(number),
-                Err(refusal) => Said::Refused(refusal),
-            }
+        Call::Open(number) => {
+            congress.open(number)?;
+            Ok(Said::Done)
         }
-        Call::Find(number) => match congress.find(post, number) {
-            Ok(place) => Said::Place(place),
-            Err(refusal) => Said::Refused(refusal),
-        },
+        Call::Clock { hall, time } => {
+            congress.set_clock(hall, time)?;
+            Ok(Said::Done)
+        }
+        Call::Drop(place) => {
+            congress.drop_message(post, place)?;
+            Ok(Said::Done)
+        }
+        Call::Issue {
+            console,
+            class,
+            halls,
+        } => {
+            let seats = [0, 1, 2, 3, 4, 5, 6, 7].map(seat);
+            let number = congress.issue(post, console, u8::from(class), halls, seats)?;
+            Ok(Said::Transaction(number))
+        }
+        Call::Find(number) => Ok(Said::Place(congress.find(post, number)?)),
     }
 }

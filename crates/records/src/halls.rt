@@ -1,8 +1,8 @@
-// Sets of halls: bit h for hall h.
+// Sets of halls: bit h for hall h. A set is a plain number, as messages carry it; each number of 8 bits is a set.
 ghost use Rattle.std.specs.Prelude.{◌≡◌, ◌<◌, ◌≤◌, count_ones};
 ghost use Rattle.records.specs.Halls.{bit, names, exist, fit_class, fit};
 
-use super::classes::{Class, class_of};
+use super::classes::Class;
 
 fn has_bit(halls: u8, hall: u8) -> bool
     requires { hall < 8 }
@@ -33,13 +33,12 @@ fn all_exist(open: u8, halls: u8) -> bool
     open >= 8 || u16::from(halls) < 1 << open
 }
 
-fn fits_class(class: Option<Class>, halls: u8) -> bool
-    ensures { result ≡ fit_class class halls }
+fn fits_class(class: Class, halls: u8) -> bool
+    ensures { result ≡ fit_class (Some class) halls }
 {
     match class {
-        None => false,
-        Some(Class::Single) => count_of(halls) == 1,
-        Some(Class::Independent | Class::Coordinated) => count_of(halls) >= 2,
+        Class::Single => count_of(halls) == 1,
+        Class::Independent | Class::Coordinated => count_of(halls) >= 2,
     }
 }
 
@@ -47,5 +46,5 @@ fn fits_class(class: Option<Class>, halls: u8) -> bool
 pub fn fits(open: u8, class: u8, halls: u8) -> bool
     ensures { result ≡ fit «open» class halls }
 {
-    all_exist(open, halls) && fits_class(class_of(class), halls)
+    all_exist(open, halls) && Class::try_from(class).is_ok_and(|class| fits_class(class, halls))
 }

@@ -12,7 +12,7 @@ mod messages;
 mod transactions;
 
 pub use below::Below;
-pub use classes::{Class, Status, class_of, status_of};
+pub use classes::{Class, Status, UnknownClass, UnknownStatus};
 pub use finder::{Bears, first_from};
 pub use halls::{count_of, fits, has};
 pub use messages::{Message, Reply, Request, Vote, is_lawful};

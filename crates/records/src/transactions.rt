@@ -29,15 +29,14 @@ pub fn sequence_of(number: u32) -> u32
 pub fn is_transaction(number: u32) -> bool
     ensures { result ≡ transaction number }
 {
-    let sequence = sequence_of(number);
-    sequence >= 1 && sequence <= LAST_SEQUENCE
+    (1..=LAST_SEQUENCE).contains(&sequence_of(number))
 }
 
 // Whether a number can be a stamp.
 pub fn is_stamp(number: u64) -> bool
     ensures { result ≡ stamp_number number }
 {
-    number >= 1 && number <= LAST_STAMP
+    (1..=LAST_STAMP).contains(&number)
 }
 
 // The stamp that a hall gives a request; none is left after the last stamp.
