@@ -1,5 +1,5 @@
 -- The keys of an operation: it has those of the entries that it reads and writes, and those that it needs below.
-use Rattle.std.specs.Prelude.{◌≡◌, ℕ, zero, suc, ◌+◌, ◌/◌, ◌%◌, ◌^◌, ◌<◌, List, bit_and, bit_or, nat_le}
+use Rattle.std.specs.Prelude.{◌≡◌, ℕ, zero, suc, ◌+◌, ◌/◌, ◌%◌, ◌^◌, ◌<◌, List, Ok, bit_and, bit_or, nat_le}
 use Rattle.std.specs.Int.Bits.{and_step, or_step, and_zero_l}
 use Rattle.std.proofs.lemmas.Nat.{and_comm, or_comm, or_shr, or_mod}
 use Rattle.std.proofs.Common.{inl, inr, sym, ap, subst, ◌∙◌, pow-suc, arith}
@@ -59,19 +59,19 @@ module _ (m : Model) where
       let key = ap entry_key h.is ∙ sym (cond-true (of_roll o) (entry_key o.a) (m.keys o) h.own) in
       held_right (entry_key o.grant) _ (48 + a) (subst (λ set. Held set (48 + a)) key (held_entry a h.there))
 
-  pub held_write : (tokens : List ℕ) (o : Operation) (a v : ℕ) → admitted tokens o ≡ Write a v → Held (roll_keys m o) (48 + a)
+  pub held_write : (tokens : List ℕ) (o : Operation) (a v : ℕ) → admitted tokens o ≡ Ok (Write a v) → Held (roll_keys m o) (48 + a)
   held_write tokens o a v e = held_at o a (write_at tokens o a v e)
 
-  pub held_read : (tokens : List ℕ) (o : Operation) (a : ℕ) → admitted tokens o ≡ Read a → Held (roll_keys m o) (48 + a)
+  pub held_read : (tokens : List ℕ) (o : Operation) (a : ℕ) → admitted tokens o ≡ Ok (Read a) → Held (roll_keys m o) (48 + a)
   held_read tokens o a e = held_at o a (read_at tokens o a e)
 
-  below_right : (tokens : List ℕ) (o : Operation) (set : ℕ) → admitted tokens o ≡ Below → bit_and (roll_keys m o) set ≡ 0 → bit_and (m.keys o) set ≡ 0
+  below_right : (tokens : List ℕ) (o : Operation) (set : ℕ) → admitted tokens o ≡ Ok Below → bit_and (roll_keys m o) set ≡ 0 → bit_and (m.keys o) set ≡ 0
   below_right tokens o set e h =
       ap (λ keys. bit_and keys set) (sym (cond-false (of_roll o) (entry_key o.a) (m.keys o) (below_not_own tokens o e)))
       ∙ disjoint_right (entry_key o.grant) _ set h
 
   -- two operations that both go to the book below share no key there either
-  pub disjoint_below : (tokens : List ℕ) (o q : Operation) → admitted tokens o ≡ Below → admitted tokens q ≡ Below → Disjoint (roll_model m) o q → Disjoint m o q
+  pub disjoint_below : (tokens : List ℕ) (o q : Operation) → admitted tokens o ≡ Ok Below → admitted tokens q ≡ Ok Below → Disjoint (roll_model m) o q → Disjoint m o q
   disjoint_below tokens o q e f h =
       let half = below_right tokens o (roll_keys m q) e h in
       and_comm (m.keys o) (m.keys q) ∙ below_right tokens q (m.keys o) f (and_comm (roll_keys m q) (m.keys o) ∙ half)

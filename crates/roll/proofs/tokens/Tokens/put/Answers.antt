@@ -1,5 +1,5 @@
-use Rattle.std.proofs.Common.{◌≡◌, ℕ, ◌+◌, ◌*◌, ◌<◌, length, set, ap, ◌∙◌, rules}
-use Rattle.roll.specs.Table.{put_here, put_others}
+use Rattle.std.proofs.Common.{◌≡◌, ℕ, ◌+◌, ◌*◌, ◌<◌, length, set, get_or, sym, ap, ap₂, ◌∙◌, rules}
+use Rattle.roll.specs.Table.{entry_hall, put_here, put_others}
 use Rattle.roll.proofs.tokens.Tokens.put.Goals as goal
 use Rattle.roll.specs.Roll.{hall_tokens}
 
@@ -9,11 +9,12 @@ returns c =
     let hall = c.args.hall in
     let a = c.args.entry in
     let v = c.args.token in
+    let low : a < 16 = search rules in
     let inside : hall * 16 + a < length all = search rules in
-    let placed : (h : ℕ) → hall_tokens (set all c.place_of.result v) h ≡ hall_tokens (set all (hall * 16 + a) v) h =
-    λ h. ap (λ k. hall_tokens (set all k v) h) c.place_of.ensures.value in
+    let placed : (h : ℕ) → hall_tokens (set all c.place_of.result c.replace.new.dest) h ≡ hall_tokens (set all (hall * 16 + a) v) h =
+    λ h. ap₂ (λ k x. hall_tokens (set all k x) h) c.place_of.ensures.value c.replace.ensures.after in
     record {
-      before = c.at-before.ensures;
-      here = placed hall ∙ put_here all hall a v c.requires.1 inside;
-      others = λ h n. placed h ∙ put_others all hall a v c.requires.1 inside h n;
+      before = c.replace.ensures.value ∙ ap (λ k. get_or all k 0) c.place_of.ensures.value ∙ sym (entry_hall all hall a low);
+      here = placed hall ∙ put_here all hall a v low inside;
+      others = λ h n. placed h ∙ put_others all hall a v low inside h n;
     }
