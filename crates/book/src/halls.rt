@@ -1,6 +1,7 @@
 // A book made of eight pages, one for each hall: what a book does at one hall makes the book of them all.
 ghost use Rattle.std.specs.Prelude.{◌≡◌, ℕ};
-ghost use Rattle.book.specs.Model.{Page, Model, Lawful, no_hall};
+ghost use Rattle.book.specs.Model.{Page, Model, Lawful};
+ghost use Rattle.records.specs.Answers.{fault_at};
 ghost use Rattle.book.specs.Halls.{page_at, all_own};
 
 use super::{Book, NO_HALL};
@@ -62,11 +63,11 @@ impl<H: Hall + Copy> Halls<H> {
     }
 }
 
-// The answer where there is no such hall.
-fn refuse_hall<H: Hall>(hall: u8) -> Answer
-    ensures { result ≡ no_hall H.model hall }
+// The answer of the book with this layer where there is no such hall.
+pub fn refuse_hall(layer: u8, hall: u8) -> Answer
+    ensures { result ≡ fault_at layer NO_HALL hall }
 {
-    Answer::fault(H::LAYER, NO_HALL, u16::from(hall))
+    Answer::fault(layer, NO_HALL, u16::from(hall))
 }
 
 impl<H: Hall> Book for Halls<H> {
@@ -84,14 +85,14 @@ impl<H: Hall> Book for Halls<H> {
 
     fn verdict(&self, hall: u8, op: Operation) -> Answer {
         match Below::<8>::new(usize::from(hall)) {
-            None => refuse_hall::<H>(hall),
+            None => refuse_hall(H::LAYER, hall),
             Some(place) => self.halls[place.get()].verdict(op),
         }
     }
 
     fn run(&mut self, hall: u8, op: Operation) -> Answer {
         match Below::<8>::new(usize::from(hall)) {
-            None => refuse_hall::<H>(hall),
+            None => refuse_hall(H::LAYER, hall),
             Some(place) => self.halls[place.get()].run(op),
         }
     }

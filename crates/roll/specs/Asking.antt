@@ -26,28 +26,23 @@ entry_to_write o =
 abbrev pub token_appointed : Operation → Result ℕ Refused
 token_appointed o = cond (nat_le 1 (natural o.c)) (Ok (natural o.c)) (refuse NoToken o.a)
 
--- kind 2 removes: entry a becomes 0; kind 1 appoints: it becomes c, if c is at least 1
-abbrev pub asked_write : Operation → Result Ask Refused
-asked_write o =
-    cond (o.kind == 2) (Ok (Write o.a 0))
-    (cond (nat_le 1 (natural o.c)) (Ok (Write o.a (natural o.c))) (refuse NoToken o.a))
+-- an entry is written where there is one to write and a token for it
+abbrev pub writing : Result ℕ Refused → Result ℕ Refused → Result Ask Refused
+writing (Ok a) (Ok token) = Ok (Write a token)
+writing (Ok a) (Err r) = Err r
+writing (Err r) token = Err r
 
--- only the chief, whose grant is 0, appoints and removes, and only at entries 1 to 15
-abbrev pub asked_chief : Operation → Result Ask Refused
-asked_chief o =
-    cond (o.grant == 0)
-    (cond (nat_le 1 o.a && nat_le o.a 15) (asked_write o) (refuse NoEntry o.a))
-    (refuse NotChief o.grant)
+abbrev pub looking : Result ℕ Refused → Result Ask Refused
+looking (Ok a) = Ok (Read a)
+looking (Err r) = Err r
 
--- kind 3 reads entry a
-abbrev pub asked_read : Operation → Result Ask Refused
-asked_read o = cond (nat_le o.a 15) (Ok (Read o.a)) (refuse NoEntry o.a)
-
--- what an operation asks whose grant stands
+-- what an operation asks whose grant stands: kind 1 appoints, entry a becomes c; kind 2 removes, it becomes 0; kind 3 reads it
 abbrev pub asked : Operation → Result Ask Refused
 asked o =
-    cond (nat_le 1 o.kind && nat_le o.kind 2) (asked_chief o)
-    (cond (o.kind == 3) (asked_read o) (Ok Below))
+    cond (o.kind == 1) (writing (entry_to_write o) (token_appointed o))
+    (cond (o.kind == 2) (writing (entry_to_write o) (Ok 0))
+    (cond (o.kind == 3) (looking (entry_named o))
+    (Ok Below)))
 
 -- kinds 1 to 3 are the roll's own
 abbrev pub of_roll : Operation → Bool

@@ -1,6 +1,6 @@
 // The roll as a book: it answers for eight halls, and hands on to the book below what is not its own.
 ghost use Rattle.std.specs.Prelude.{◌≡◌, ℕ, ◌<◌, ◌≢◌};
-ghost use Rattle.records.specs.Answers.{done_with, fault_at};
+ghost use Rattle.records.specs.Answers.{done_with};
 ghost use Rattle.roll.specs.Roll.{filled, answer, after, roll_model, sheet_of, page_of, first_page};
 ghost use Rattle.roll.specs.Laws.{own_page, roll_lawful};
 ghost use Rattle.roll.specs.Table.{length_hall};
@@ -8,7 +8,7 @@ ghost use Rattle.roll.specs.Table.{length_hall};
 use super::LAYER;
 use super::asking::{Ask, EMPTY, is_of_roll, key_of_entry};
 use super::tokens::Tokens;
-use book::{Book, NO_HALL};
+use book::{Book, refuse_hall};
 use records::{Answer, Below, Operation};
 
 // The tokens of the deputies, over the book that they work in.
@@ -35,13 +35,6 @@ fn tell(token: u32) -> Answer
     ensures { result ≡ done_with 3 (filled token) }
 {
     Answer::done(LAYER, i32::from(token != EMPTY))
-}
-
-// The answer where there is no such hall.
-fn refuse_hall(hall: u8) -> Answer
-    ensures { result ≡ fault_at 3 255 hall }
-{
-    Answer::fault(LAYER, NO_HALL, u16::from(hall))
 }
 
 // What is asked at one of the eight halls.
@@ -98,14 +91,15 @@ impl<B: Book> Book for Roll<B> {
     fn verdict(&self, hall: u8, op: Operation) -> Answer {
         match Below::new(usize::from(hall)) {
             Some(place) => self.verdict_at(place, op),
-            None => refuse_hall(hall),
+            None => refuse_hall(LAYER, hall),
         }
     }
 
+    #[tactic(auto, using(crate::specs::Pages::turned_roll))]
     fn run(&mut self, hall: u8, op: Operation) -> Answer {
         match Below::new(usize::from(hall)) {
             Some(place) => self.run_at(place, op),
-            None => refuse_hall(hall),
+            None => refuse_hall(LAYER, hall),
         }
     }
 }

@@ -32,6 +32,7 @@ impl Tokens {
         Tokens { tokens }
     }
 
+    #[tactic(auto, using(crate::specs::Table::entry_hall))]
     pub(crate) fn at(&self, hall: Below<8>, entry: Below<ENTRIES>) -> u32
         ensures { result ≡ entry_of (hall_tokens self.now.tokens hall) entry }
     {
@@ -39,6 +40,7 @@ impl Tokens {
     }
 
     // Puts a token at an entry, and returns the one that was there.
+    #[tactic(auto, using(crate::specs::Table::entry_hall, crate::specs::Table::put_here, crate::specs::Table::put_others))]
     pub(crate) fn put(&mut self, hall: Below<8>, entry: Below<ENTRIES>, token: u32) -> u32
         ensures before { result ≡ entry_of (hall_tokens self.old.tokens hall) entry }
         ensures here { hall_tokens self.new.tokens hall ≡ slice_set (hall_tokens self.old.tokens hall) entry token }

@@ -5,7 +5,7 @@ use Rattle.roll.specs.Roll.{hall_tokens}
 use Rattle.std.proofs.lemmas.Bool.{cases_eq}
 
 pub loop-hall-init : goal.loop-hall-init
-loop-hall-init c = (refl, λ h l. absurd (omega arith), λ h _. hall_zeros 128 h)
+loop-hall-init c = (refl, λ h l. absurd (omega arith), λ h _ m. hall_zeros h m)
 
 pub loop-hall-preserved : goal.loop-hall-preserved
 loop-hall-preserved c =
@@ -20,8 +20,8 @@ loop-hall-preserved c =
       length-set old (hall * 16) c.args.chief ∙ c.loop-hall.invariant.0,
       λ h l.
           elim (cases_eq h hall) [
-            | inl e ↦ ap (hall_tokens new) e ∙ first_here (hall_tokens new hall) (hall_tokens old hall) c.args.chief (c.loop-hall.invariant.2 hall (omega arith)) here
+            | inl e ↦ ap (hall_tokens new) e ∙ first_here (hall_tokens new hall) (hall_tokens old hall) c.args.chief (c.loop-hall.invariant.2 hall (omega arith) c.loop-hall-test.true) here
             | inr n ↦ others h n ∙ c.loop-hall.invariant.1 h (omega arith)
           ],
-      λ h l. others h (omega arith) ∙ c.loop-hall.invariant.2 h (omega arith),
+      λ h l m. others h (omega arith) ∙ c.loop-hall.invariant.2 h (omega arith) m,
     )
