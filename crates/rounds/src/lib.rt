@@ -5,10 +5,16 @@ ghost use Rattle.std.specs.Prelude.{◌≡◌, ℕ, ◌<◌, ◌≤◌, length};
 ghost use Rattle.rounds.specs.Faults.{fault_number, answered};
 ghost use Rattle.rounds.specs.Rounds.{in_turn, raised, Small};
 
+mod cells;
+mod sheets;
+
+pub use cells::{Ask, Cell};
+pub use sheets::Sheet;
+
 use records::Answer;
 
 // Why an operation is not done.
-#[derive(Clone, Copy)]
+#[derive(Clone, Copy, Debug, PartialEq, Eq, Hash)]
 pub enum Fault {
     // no such board or deal
     NoPlace,

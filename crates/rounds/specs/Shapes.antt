@@ -1,4 +1,4 @@
--- The answers of a book of rounds.
+-- The answers of a book of rounds have their shape.
 use Rattle.std.proofs.Common.{◌≡◌, ℕ, false, ℤ, is_ok, Ok, Err, Result, refl, arith}
 use Rattle.records.specs.Answers.{Shaped, well_done}
 use Rattle.rounds.specs.Faults.{fault_number, answered}
