@@ -3,7 +3,7 @@ use Rattle.std.specs.Prelude.{ℕ, Bool, List, ℤ, Result}
 use Rattle.book.specs.Model.{Page}
 use Rattle.records.specs.declared.Operation.{Operation}
 use Rattle.rounds.specs.declared.Fault.{Fault}
-use Rattle.rounds.specs.declared.cells.Ask.{Ask}
+use Rattle.rounds.specs.declared.asks.Ask.{Ask}
 
 pub record Game (C A : Type 0) (cells totals : ℕ) : Type 1 where
   -- the book's number in its answers
@@ -12,8 +12,8 @@ pub record Game (C A : Type 0) (cells totals : ℕ) : Type 1 where
   pub asked : Operation → Result (Ask A cells totals) Fault
   pub keys : Operation → ℕ
   pub empty : C
-  -- cells of the right size
-  pub sized : C → Type 0
+  -- whether a cell is of the right size
+  pub sized : C → Bool
   -- the value of what is well done, or why it is not done, in the current round; and what it makes of the cell
   pub says : C → ℕ → A → Result ℤ Fault
   pub changed : C → A → C

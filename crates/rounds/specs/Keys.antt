@@ -9,8 +9,8 @@ use Rattle.rounds.specs.Games.{Game}
 use Rattle.rounds.specs.Pages.{model}
 use Rattle.rounds.specs.Parts.{reads, writes}
 use Rattle.rounds.specs.declared.Fault.{Fault}
-use Rattle.rounds.specs.declared.cells.Ask.{Ask}
-use Rattle.rounds.specs.declared.cells.Ask.TheVariants.{Cell, Close, Total}
+use Rattle.rounds.specs.declared.asks.Ask.{Ask}
+use Rattle.rounds.specs.declared.asks.Ask.TheVariants.{Cell, Close, Total}
 use Rattle.std.proofs.lemmas.Bool.{cases_lt, cond-true, cond-false, lt-ltb, le-ltb, eqb-true, or_cases, not-true, false≢true}
 
 module _ {A : Type 0} {cells totals : ℕ} where

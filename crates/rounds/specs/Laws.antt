@@ -15,7 +15,7 @@ use Rattle.rounds.specs.Shapes.{answered_shaped, fault_not_ok}
 use Rattle.rounds.specs.Sheets.{says, said, left, made}
 use Rattle.rounds.specs.Sizes.{sized_read, sized_after, sized_blank}
 use Rattle.rounds.specs.declared.Fault.{Fault}
-use Rattle.rounds.specs.declared.cells.Ask.{Ask}
+use Rattle.rounds.specs.declared.asks.Ask.{Ask}
 use Rattle.rounds.specs.declared.sheets.Sheet.{Sheet}
 use Rattle.std.proofs.lemmas.Bool.{true≢false}
 

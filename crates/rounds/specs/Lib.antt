@@ -13,3 +13,4 @@ pub mod Again
 pub mod Parts
 pub mod Keys
 pub mod Laws
+pub mod Rooms

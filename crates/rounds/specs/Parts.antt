@@ -7,8 +7,8 @@ use Rattle.rounds.specs.Games.{Game}
 use Rattle.rounds.specs.Kept.{Sized}
 use Rattle.rounds.specs.Sheets.{cell, with_cell, says, changed, said, left, made}
 use Rattle.rounds.specs.declared.Fault.{Fault}
-use Rattle.rounds.specs.declared.cells.Ask.{Ask}
-use Rattle.rounds.specs.declared.cells.Ask.TheVariants.{Cell, Close, Total}
+use Rattle.rounds.specs.declared.asks.Ask.{Ask}
+use Rattle.rounds.specs.declared.asks.Ask.TheVariants.{Cell, Close, Total}
 use Rattle.rounds.specs.declared.sheets.Sheet.{Sheet}
 use Rattle.std.proofs.lemmas.List.{same_lists, get_or_default}
 use Rattle.std.proofs.lemmas.Bool.{cond-true, cond-false, lt-ltb, le-ltb, eq-eqb, eqb-true, eqb-false, or_left, or_right, true≢false, false≢true}

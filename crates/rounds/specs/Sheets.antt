@@ -8,8 +8,8 @@ use Rattle.rounds.specs.Games.{Game}
 use Rattle.rounds.specs.Rounds.{in_turn, raised}
 use Rattle.rounds.specs.declared.Fault.{Fault}
 use Rattle.rounds.specs.declared.Fault.TheVariants.{NotClosable}
-use Rattle.rounds.specs.declared.cells.Ask.{Ask}
-use Rattle.rounds.specs.declared.cells.Ask.TheVariants.{Cell, Close, Total}
+use Rattle.rounds.specs.declared.asks.Ask.{Ask}
+use Rattle.rounds.specs.declared.asks.Ask.TheVariants.{Cell, Close, Total}
 use Rattle.rounds.specs.declared.sheets.Sheet.{Sheet}
 
 module _ {C A : Type 0} {cells totals : ℕ} (g : Game C A cells totals) where

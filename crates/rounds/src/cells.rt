@@ -1,21 +1,12 @@
-// The cells of a sheet: the boards of chess or the deals of bridge, and what an operation asks of them.
+// The cells of a sheet: the boards of chess or the deals of bridge.
 ghost use Rattle.std.specs.Prelude.{◌≡◌, ℕ, ◌<◌, ◌≤◌};
 ghost use Rattle.rounds.specs.Games.{Game};
 ghost use Rattle.rounds.specs.Fits.{Fits};
+ghost use Rattle.rounds.specs.Rooms.{AskFitsInMemory};
 
 use super::Fault;
-use records::{Below, Operation};
-
-// What an operation asks, as far as its own numbers tell.
-#[derive(Clone, Copy, Debug, PartialEq, Eq, Hash)]
-pub enum Ask<A, const CELLS: usize, const TOTALS: usize> {
-    // something of a cell
-    Cell(Below<CELLS>, A),
-    // the closing of a round
-    Close(u16),
-    // a total
-    Total(Below<TOTALS>),
-}
+use super::asks::Ask;
+use records::Operation;
 
 // A board or a deal.
 pub trait Cell<const CELLS: usize, const TOTALS: usize>: Copy {
@@ -56,9 +47,12 @@ pub trait Cell<const CELLS: usize, const TOTALS: usize>: Copy {
         ensures { result ≡ game.settled self.now };
 
     // What a total gains here.
-    fn gain(&self, total: Below<TOTALS>) -> u32
-        ensures value { result ≡ game.gain total.entry self.now }
+    fn gain(&self, total: usize) -> u32
+        requires { total < TOTALS }
+        ensures value { result ≡ game.gain total self.now }
         ensures few { result ≤ game.most };
 
     ghost fits: { Fits LAYER game };
+
+    ghost roomy: { AskFitsInMemory Self.Ask.row CELLS.row TOTALS.row };
 }

@@ -1,15 +1,17 @@
 // What the books of chess and bridge share: their faults and answers, and the closing of a round.
 #![tactic(auto)]
 
-ghost use Rattle.std.specs.Prelude.{◌≡◌, ℕ, ◌<◌, ◌≤◌, length};
+ghost use Rattle.std.specs.Prelude.{◌≡◌};
 ghost use Rattle.rounds.specs.Faults.{fault_number, answered};
-ghost use Rattle.rounds.specs.Rounds.{in_turn, raised, Small};
+ghost use Rattle.rounds.specs.Rounds.{in_turn};
 
+mod asks;
 mod cells;
 mod sheets;
 
-pub use cells::{Ask, Cell};
-pub use sheets::Sheet;
+pub use asks::Ask;
+pub use cells::Cell;
+pub use sheets::{Kept, Sheet};
 
 use records::Answer;
 
@@ -68,25 +70,4 @@ pub fn is_in_turn(current: u16, round: u16) -> bool
     ensures { result ≡ in_turn current round }
 {
     round == current && round <= LAST_ROUND
-}
-
-// What a round gives to each of at most 64 totals.
-pub trait Gains {
-    ghost gain: { Self → ℕ → ℕ };
-
-    fn gained(&self, i: usize) -> u32
-        requires { i < 64 }
-        ensures value { result ≡ gain self.now i }
-        ensures few { result ≤ 2048 };
-}
-
-// Adds to each total what the round gives to it.
-pub fn raise<G: Gains>(totals: &mut [u32], round: u16, gains: &G)
-    requires few { length totals.old ≤ 64 }
-    requires small { Small round totals.old }
-    ensures { totals.new ≡ raised totals.old (G.gain gains.now) }
-{
-    for i in 0..totals.len() {
-        totals[i] += gains.gained(i);
-    }
 }
