@@ -3,3 +3,4 @@ pub mod Asking
 pub mod Rules
 pub mod Page
 pub mod Laws
+pub mod Promises

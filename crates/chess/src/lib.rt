@@ -3,11 +3,13 @@
 
 mod asking;
 mod kinds;
+mod promises;
 mod rules;
 mod sheet;
 
 pub use asking::BoardAsk;
 pub use kinds::Kind;
+pub use promises::games_give_a_point;
 pub use rules::LAYER;
 pub use sheet::{Board, Game, Outcome};
 
