@@ -1,10 +1,6 @@
+pub mod Kinds
 pub mod Asking
 pub mod Rules
 pub mod Page
-pub mod Kept
-pub mod Promises
 pub mod Laws
-pub mod Keys
-pub mod Parts
-pub mod Pages
-pub mod Sizes
+pub mod Promises
