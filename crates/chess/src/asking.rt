@@ -64,7 +64,8 @@ pub(crate) fn asked(op: Operation) -> Result<Ask<BoardAsk, BOARDS, PLAYERS>, Fau
     match Kind::try_from(op.kind)? {
         Kind::Seat => Ok(Ask::Cell(place(op.a)?, seating(op)?)),
         Kind::Enter => Ok(Ask::Cell(
-            place(op.a)?, BoardAsk::Enter(op.b, Outcome::try_from(op.c).ok()),
+            place(op.a)?,
+            BoardAsk::Enter(op.b, Outcome::try_from(op.c).ok()),
         )),
         Kind::Read => Ok(Ask::Cell(place(op.a)?, BoardAsk::Read)),
         Kind::Close => Ok(Ask::Close(op.a)),

@@ -47,7 +47,12 @@ impl Board {
         ensures { result ≡ seat_says self.game }
     {
         match self.game {
-            Some(Game { result: Some(_), .. }) => Err(Fault::HasResult),
+            Some(
+                Game {
+                    result: Some(_),
+                    ..
+                },
+            ) => Err(Fault::HasResult),
             _ => Ok(0),
         }
     }

@@ -1,5 +1,5 @@
 -- Every sheet that is read or made has its size, and what is kept stays kept.
-use Rattle.std.specs.Prelude.{◌≡◌, ℕ, ◌*◌, ◌≤◌, true, List, length, replicate, ℤ, Ok, Err, Result}
+use Rattle.std.specs.Prelude.{◌≡◌, ℕ, ◌*◌, ◌≤◌, true, ℤ, Ok, Err, Result}
 use Rattle.std.proofs.Common.{length-set, inl, inr, sym, subst, ◌∙◌, arith}
 use Rattle.book.proofs.Below.{length-table, get_or-table, sum_bound}
 use Rattle.book.proofs.Tables.{set_keeps}

@@ -97,9 +97,11 @@ pub struct Kept<C: Cell<CELLS, TOTALS>, const CELLS: usize, const TOTALS: usize>
 }
 
 // no derive: the check refuses one over a ghost field
-impl<C: Cell<CELLS, TOTALS>, const CELLS: usize, const TOTALS: usize> Copy for Kept<C, CELLS, TOTALS> {}
+impl<C: Cell<CELLS, TOTALS>, const CELLS: usize, const TOTALS: usize> Copy
+    for Kept<C, CELLS, TOTALS> {}
 
-impl<C: Cell<CELLS, TOTALS>, const CELLS: usize, const TOTALS: usize> Clone for Kept<C, CELLS, TOTALS> {
+impl<C: Cell<CELLS, TOTALS>, const CELLS: usize, const TOTALS: usize> Clone
+    for Kept<C, CELLS, TOTALS> {
     ghost is_clone = { λ k l. l ≡ k };
 
     fn clone(&self) -> Result<Kept<C, CELLS, TOTALS>, AllocError> {
@@ -174,7 +176,8 @@ impl<C: Cell<CELLS, TOTALS>, const CELLS: usize, const TOTALS: usize> Kept<C, CE
     }
 }
 
-impl<C: Cell<CELLS, TOTALS>, const CELLS: usize, const TOTALS: usize> Hall for Kept<C, CELLS, TOTALS> {
+impl<C: Cell<CELLS, TOTALS>, const CELLS: usize, const TOTALS: usize> Hall
+    for Kept<C, CELLS, TOTALS> {
     ghost model = { model C.game };
 
     ghost page = { λ k. write C.game k.sheet };
