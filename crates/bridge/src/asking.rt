@@ -32,9 +32,9 @@ impl TryFrom<u8> for Kind {
 }
 
 impl From<Kind> for u8 {
-    fn from(kind: Kind) -> u8
-        ensures { result ≡ kind_number kind }
-    {
+    ghost from_gives = { λ kind number. number ≡ kind_number kind };
+
+    fn from(kind: Kind) -> u8 {
         kind as u8
     }
 }

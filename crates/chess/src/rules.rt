@@ -64,9 +64,7 @@ impl Board {
         if round != current {
             return Err(Fault::OtherRound);
         }
-        if ended.is_none() {
-            return Err(Fault::BadResult);
-        }
+        ended.ok_or(Fault::BadResult)?;
         Ok(i32::from(number_of(game.result)))
     }
 
