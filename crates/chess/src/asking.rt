@@ -78,13 +78,10 @@ pub(crate) fn keys(op: Operation) -> u64
     ensures { result ≡ keys_needed op }
 {
     match Kind::try_from(op.kind) {
-        Ok(Kind::Seat | Kind::Enter | Kind::Read) => {
-            if usize::from(op.a) >= BOARDS {
-                0
-            } else {
-                1 << op.a
-            }
-        }
+        Ok(Kind::Seat | Kind::Enter | Kind::Read) => match place(op.a) {
+            Ok(board) => 1 << board.get(),
+            Err(_) => 0,
+        },
         Ok(Kind::Close) => 0x1_ffff_ffff,
         Ok(Kind::Total) => 1 << 32,
         Err(_) => 0,

@@ -3,7 +3,7 @@ ghost use Rattle.std.proofs.Common.{rules};
 ghost use Rattle.std.specs.Prelude.{◌≡◌, ◌≤◌};
 ghost use Rattle.chess.specs.Laws.{chess_fits};
 ghost use Rattle.chess.specs.Page.{chess};
-ghost use Rattle.chess.specs.Rules.{result_number, seat_says, enter_says, with_result, read_says, white_points, black_points};
+ghost use Rattle.chess.specs.Rules.{result_number, seat_says, enter_says, read_says, white_points, black_points};
 
 use super::asking::{BoardAsk, asked, keys};
 use super::sheet::{BOARDS, Board, Game, Outcome, PLAYERS};
@@ -47,12 +47,7 @@ impl Board {
         ensures { result ≡ seat_says self.game }
     {
         match self.game {
-            Some(
-                Game {
-                    result: Some(_),
-                    ..
-                },
-            ) => Err(Fault::HasResult),
+            Some(game) if game.result.is_some() => Err(Fault::HasResult),
             _ => Ok(0),
         }
     }
@@ -73,19 +68,6 @@ impl Board {
     {
         let game = self.game.ok_or(Fault::Nothing)?;
         Ok(i32::from(number_of(game.result)))
-    }
-}
-
-// The game with this result.
-fn with_result(game: Option<Game>, ended: Option<Outcome>) -> Option<Game>
-    ensures { result ≡ with_result game ended }
-{
-    match game {
-        None => None,
-        Some(game) => Some(Game {
-            result: ended,
-            ..game
-        }),
     }
 }
 
@@ -131,7 +113,7 @@ impl Cell<BOARDS, PLAYERS> for Board {
                     result: None,
                 });
             }
-            BoardAsk::Enter(_, ended) => self.game = with_result(self.game, ended),
+            BoardAsk::Enter(_, ended) => self.game = self.game.map(|game| Game { result: ended, ..game }),
             BoardAsk::Read => {}
         }
     }
@@ -141,10 +123,7 @@ impl Cell<BOARDS, PLAYERS> for Board {
     }
 
     fn is_settled(&self) -> bool {
-        match self.game {
-            None => true,
-            Some(game) => game.result.is_some(),
-        }
+        self.game.is_none_or(|game| game.result.is_some())
     }
 
     // The half points that player `total` + 1 gains here.
