@@ -13,6 +13,7 @@ use records::{Answer, Operation};
 use roll::Roll;
 
 // All the examples hold.
+#[tactic(auto, using(crate::proofs::Computed::one_drawn_board, crate::proofs::Computed::three_lines, crate::proofs::Computed::sheet_lines))]
 pub fn worked_examples() -> u8
     ensures { WorkedExamples }
 {
