@@ -4,7 +4,7 @@ ghost use Rattle.book.specs.Model.{Page, Model, Lawful};
 ghost use Rattle.records.specs.Answers.{fault_at};
 ghost use Rattle.book.specs.Halls.{page_at, all_own};
 
-use super::{Book, NO_HALL};
+use super::{Book, HALLS, NO_HALL};
 use records::{Answer, Below, Operation};
 
 // A book's part at one hall: the three questions of a book, on one page.
@@ -49,7 +49,7 @@ pub trait Hall {
 // A book with a part for each hall.
 #[derive(Drop)]
 pub struct Halls<H> {
-    halls: [H; 8],
+    halls: [H; HALLS],
 }
 
 impl<H: Hall + Copy> Halls<H> {
@@ -58,7 +58,7 @@ impl<H: Hall + Copy> Halls<H> {
         ensures { (h : ℕ) → page_at H.page H.first result.halls h ≡ H.first }
     {
         Halls {
-            halls: [H::new(); 8],
+            halls: [H::new(); HALLS],
         }
     }
 }
@@ -84,14 +84,14 @@ impl<H: Hall> Book for Halls<H> {
     }
 
     fn verdict(&self, hall: u8, op: Operation) -> Answer {
-        match Below::<8>::new(usize::from(hall)) {
+        match Below::<HALLS>::new(usize::from(hall)) {
             None => refuse_hall(H::LAYER, hall),
             Some(place) => self.halls[place.get()].verdict(op),
         }
     }
 
     fn run(&mut self, hall: u8, op: Operation) -> Answer {
-        match Below::<8>::new(usize::from(hall)) {
+        match Below::<HALLS>::new(usize::from(hall)) {
             None => refuse_hall(H::LAYER, hall),
             Some(place) => self.halls[place.get()].run(op),
         }

@@ -11,7 +11,7 @@ pub use halls::{Hall, Halls, refuse_hall};
 use records::{Answer, Operation};
 
 // Halls are numbered from 0.
-pub const HALLS: u8 = 8;
+pub const HALLS: usize = 8;
 
 // The cause of the fault that a hall above 7 gets.
 pub const NO_HALL: u8 = 255;

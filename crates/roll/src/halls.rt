@@ -8,7 +8,7 @@ ghost use Rattle.roll.specs.Table.{length_hall};
 use super::LAYER;
 use super::asking::{Ask, EMPTY, is_of_roll, key_of_entry};
 use super::tokens::Tokens;
-use book::{Book, refuse_hall};
+use book::{Book, HALLS, refuse_hall};
 use records::{Answer, Below, Operation};
 
 // The tokens of the deputies, over the book that they work in.
@@ -39,7 +39,7 @@ fn tell(token: u32) -> Answer
 
 // What is asked at one of the eight halls.
 impl<B: Book> Roll<B> {
-    fn verdict_at(&self, hall: Below<8>, op: Operation) -> Answer
+    fn verdict_at(&self, hall: Below<HALLS>, op: Operation) -> Answer
         ensures { result ≡ answer B.model (sheet_of B.pages self.now hall) op }
     {
         let ask = match self.tokens.admit(hall, op) {
@@ -52,7 +52,7 @@ impl<B: Book> Roll<B> {
         }
     }
 
-    fn run_at(&mut self, hall: Below<8>, op: Operation) -> Answer
+    fn run_at(&mut self, hall: Below<HALLS>, op: Operation) -> Answer
         ensures answer { result ≡ answer B.model (sheet_of B.pages self.old hall) op }
         ensures here { sheet_of B.pages self.new hall ≡ after B.model (sheet_of B.pages self.old hall) op }
         ensures others { (h : ℕ) → (h ≢ hall) → sheet_of B.pages self.new h ≡ sheet_of B.pages self.old h }

@@ -4,6 +4,7 @@ ghost use Rattle.roll.specs.Roll.{entry as entry_of, stands, admitted, hall_toke
 
 use super::asking::{Ask, EMPTY, ENTRIES, ask_of};
 use super::refusals::{Refusal, Refused};
+use book::HALLS;
 use records::{Below, Operation};
 
 // Entry g of hall h lies at h * 16 + g.
@@ -13,7 +14,7 @@ pub struct Tokens {
     tokens: [u32; 128],
 }
 
-fn place_of(hall: Below<8>, entry: Below<ENTRIES>) -> usize
+fn place_of(hall: Below<HALLS>, entry: Below<ENTRIES>) -> usize
     ensures value { result ≡ hall * 16 + entry }
     ensures inside { result < 128 }
 {
@@ -26,14 +27,14 @@ impl Tokens {
         ensures { (h : ℕ) → h < 8 → hall_tokens result.tokens h ≡ first_tokens chief }
     {
         let mut tokens = [0; 128];
-        for hall in 0..8 {
+        for hall in 0..HALLS {
             tokens[hall * ENTRIES] = chief;
         }
         Tokens { tokens }
     }
 
     #[tactic(auto, using(crate::specs::Table::entry_hall))]
-    pub(crate) fn at(&self, hall: Below<8>, entry: Below<ENTRIES>) -> u32
+    pub(crate) fn at(&self, hall: Below<HALLS>, entry: Below<ENTRIES>) -> u32
         ensures { result ≡ entry_of (hall_tokens self.now.tokens hall) entry }
     {
         self.tokens[place_of(hall, entry)]
@@ -41,7 +42,7 @@ impl Tokens {
 
     // Puts a token at an entry, and returns the one that was there.
     #[tactic(auto, using(crate::specs::Table::entry_hall, crate::specs::Table::put_here, crate::specs::Table::put_others))]
-    pub(crate) fn put(&mut self, hall: Below<8>, entry: Below<ENTRIES>, token: u32) -> u32
+    pub(crate) fn put(&mut self, hall: Below<HALLS>, entry: Below<ENTRIES>, token: u32) -> u32
         ensures before { result ≡ entry_of (hall_tokens self.old.tokens hall) entry }
         ensures here { hall_tokens self.new.tokens hall ≡ slice_set (hall_tokens self.old.tokens hall) entry token }
         ensures others { (h : ℕ) → (h ≢ hall) → hall_tokens self.new.tokens h ≡ hall_tokens self.old.tokens h }
@@ -49,7 +50,7 @@ impl Tokens {
         std::mem::replace(&mut self.tokens[place_of(hall, entry)], token)
     }
 
-    fn is_standing(&self, hall: Below<8>, op: Operation) -> bool
+    fn is_standing(&self, hall: Below<HALLS>, op: Operation) -> bool
         ensures { result ≡ stands (hall_tokens self.now.tokens hall) op }
     {
         match Below::new(usize::from(op.grant)) {
@@ -59,7 +60,7 @@ impl Tokens {
     }
 
     // What an operation asks at a hall: nothing, where its grant does not stand.
-    pub(crate) fn admit(&self, hall: Below<8>, op: Operation) -> Result<Ask, Refused>
+    pub(crate) fn admit(&self, hall: Below<HALLS>, op: Operation) -> Result<Ask, Refused>
         ensures { result ≡ admitted (hall_tokens self.now.tokens hall) op }
     {
         if !self.is_standing(hall, op) {
