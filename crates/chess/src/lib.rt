@@ -2,14 +2,13 @@
 #![tactic(auto)]
 
 mod asking;
-mod closing;
-mod halls;
+mod kinds;
 mod promises;
 mod rules;
 mod sheet;
-mod state;
 
-pub use asking::{CLOSE, ENTER, READ, SEAT, TOTAL};
+pub use asking::BoardAsk;
+pub use kinds::Kind;
 pub use promises::games_give_a_point;
-pub use rules::LAYER;
-pub use state::Chess;
+pub use rules::{Chess, LAYER};
+pub use sheet::{Board, Game, Outcome};
