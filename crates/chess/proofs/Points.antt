@@ -6,9 +6,9 @@ use Rattle.book.specs.Below.{sum_below, some_below, all_below}
 use Rattle.book.specs.Numbers.{natural}
 use Rattle.chess.specs.Asking.{Asked, player, outcome, seating, of_cell, at_board, of_board, asked}
 use Rattle.chess.specs.Laws.{chess_fits}
-use Rattle.chess.specs.Page.{chess}
-use Rattle.chess.specs.Promises.{ChessSheet, played, points_in_all, games, GamesGiveAPoint, PointsStayElse}
-use Rattle.chess.specs.Rules.{empty, with_result, seated, finished_game, finished, white_points, black_points, game_gain, gain}
+use Rattle.chess.specs.Page.{chess, ChessSheet, blank}
+use Rattle.chess.specs.Promises.{played, points_in_all, games, GamesGiveAPoint, PointsStayElse}
+use Rattle.chess.specs.Rules.{empty, with_result, seated, finished_game, white_points, black_points, game_gain}
 use Rattle.chess.specs.declared.asking.BoardAsk.{BoardAsk}
 use Rattle.chess.specs.declared.asking.BoardAsk.TheVariants.{Seat, Enter, Read}
 use Rattle.chess.specs.declared.sheet.Board.{Board}
@@ -19,7 +19,6 @@ use Rattle.records.specs.Answers.{well_done}
 use Rattle.records.specs.declared.Operation.{Operation}
 use Rattle.rounds.specs.Faults.{answered}
 use Rattle.rounds.specs.Kept.{Sized}
-use Rattle.rounds.specs.Pages.{blank}
 use Rattle.rounds.specs.Sheets.{cell, used_at, settled_at, closable, gain_at, gained, closed, says, changed, said, left, made, answer, after}
 use Rattle.rounds.specs.Sizes.{sized_after, sized_blank}
 use Rattle.rounds.specs.Totals.{get_or-replicate_same}
@@ -84,7 +83,7 @@ ask_fair o =
 abbrev AllFair : ChessSheet → Type 0
 AllFair s = (a : ℕ) → Fair (cell chess s a)
 
-no_games_fair : AllFair (blank chess)
+no_games_fair : AllFair blank
 no_games_fair a = subst Fair (sym (get_or-replicate_same 32 a empty)) tt
 
 with_result_fair : (x : Option Game) (r : Option Outcome) → FairGame x → FairGame (with_result x r)
@@ -193,7 +192,7 @@ module _ (s : ChessSheet) (o : Operation) (closing : o.kind ≡ 19) (done : well
 pub games_give_a_point_lem : GamesGiveAPoint
 games_give_a_point_lem os o closing done =
     let s = played os in
-    let p = played_on os (blank chess) (record { sized = sized_blank chess chess_fits; fair = no_games_fair }) in
+    let p = played_on os blank (record { sized = sized_blank chess chess_fits; fair = no_games_fair }) in
     ap points_in_all (after_closing s o closing done) ∙ closed_points s p (all_in s o closing done)
 
 -- only kind 19 asks to close

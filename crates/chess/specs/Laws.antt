@@ -1,12 +1,12 @@
 -- What the book of chess shows of its boards, so that it keeps the law of books.
-use Rattle.std.specs.Prelude.{◌≡◌, ℕ, ◌+◌, ◌*◌, ◌<◌, ◌≤◌, ◌^◌, ◌-◌, true, cond, length, ℤ, pos, Some, None, Ok, Err, Option, Result, ◌==◌, nat_le, false, refl}
+use Rattle.std.specs.Prelude.{◌≡◌, ℕ, ◌+◌, ◌<◌, ◌≤◌, ◌^◌, ◌-◌, true, cond, length, pos, Some, None, Ok, Err, Option, Result, ◌==◌, nat_le, false, refl}
 use Rattle.std.proofs.Common.{ap, ap₂, sym, subst, ◌∙◌, arith}
 use Rattle.book.proofs.Keys.{Held, held_one, held_below}
 use Rattle.book.specs.Model.{Page}
-use Rattle.book.specs.Numbers.{natural, at}
+use Rattle.book.specs.Numbers.{at}
 use Rattle.chess.specs.Asking.{Asked, player, outcome, seating, at_board, of_board, of_cell, asked, keys}
 use Rattle.chess.specs.Page.{game_numbers, board_numbers, board_from, read_board, chess}
-use Rattle.chess.specs.Rules.{result_number, white_points, black_points, game_gain, gain}
+use Rattle.chess.specs.Rules.{result_number, white_points, black_points, game_gain}
 use Rattle.chess.specs.declared.asking.BoardAsk.{BoardAsk}
 use Rattle.chess.specs.declared.asking.BoardAsk.TheVariants.{Enter, Read}
 use Rattle.chess.specs.declared.sheet.Board.{Board}
@@ -18,7 +18,7 @@ use Rattle.rounds.specs.Fits.{Covers, Fits}
 use Rattle.rounds.specs.declared.Fault.{Fault}
 use Rattle.rounds.specs.declared.Fault.TheVariants.{NoPlace, NoParty, UnknownKind}
 use Rattle.rounds.specs.declared.asks.Ask.TheVariants.{Cell, Close, Total}
-use Rattle.std.proofs.lemmas.Bool.{cond_both, leb-true, eqb-true, cond-true, cond-false}
+use Rattle.std.proofs.lemmas.Bool.{cond_both, leb-true, cond-true, cond-false}
 
 outcome_again : (r : Option Outcome) → outcome (pos (result_number r)) ≡ r
 outcome_again None = refl

@@ -1,3 +1,4 @@
+-- The book of chess: what is its own in a book of rounds.
 pub mod Kinds
 pub mod Asking
 pub mod Rules

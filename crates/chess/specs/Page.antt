@@ -1,7 +1,7 @@
 -- The book of chess as a book of rounds. The page of a hall has the round; for each of 32 boards 1, white, black and
 -- result, or four zeros where it is empty; the totals of players 1 to 64.
 use Rattle.std.specs.Prelude.{ℕ, ◌+◌, cond, true, List, [], ◌∷◌, ℤ, pos, Some, None, Option, ◌==◌}
-use Rattle.book.specs.Model.{Page}
+use Rattle.book.specs.Model.{Page, Model}
 use Rattle.book.specs.Numbers.{natural, at}
 use Rattle.chess.specs.Asking.{outcome, asked, keys}
 use Rattle.chess.specs.Rules.{empty, result_number, says, changed, seated, finished, gain}
@@ -9,6 +9,8 @@ use Rattle.chess.specs.declared.asking.BoardAsk.{BoardAsk}
 use Rattle.chess.specs.declared.sheet.Board.{Board}
 use Rattle.chess.specs.declared.sheet.Game.{Game as SeatedGame}
 use Rattle.rounds.specs.Games.{Game}
+use Rattle.rounds.specs.Pages.{model, write as sheet_page, blank as new_sheet}
+use Rattle.rounds.specs.declared.sheets.Sheet.{Sheet}
 
 abbrev pub game_numbers : Option SeatedGame → List ℤ
 game_numbers None = pos 0 ∷ pos 0 ∷ pos 0 ∷ pos 0 ∷ []
@@ -43,3 +45,16 @@ chess = record {
   width = 4;
   read = read_board;
 }
+
+abbrev pub chess_model : Model
+chess_model = model chess
+
+abbrev pub ChessSheet : Type 0
+ChessSheet = Sheet Board 32 64
+
+abbrev pub write : ChessSheet → Page
+write = sheet_page chess
+
+-- round 1, empty boards and no points
+abbrev pub blank : ChessSheet
+blank = new_sheet chess

@@ -1,20 +1,14 @@
 -- What chess promises of points: a game gives out one point, however it ends.
 use Rattle.std.specs.Prelude.{◌≡◌, ℕ, ◌+◌, ◌*◌, true, cond, List, fold, ◌≢◌, slice_index}
 use Rattle.book.specs.Below.{sum_below}
-use Rattle.chess.specs.Page.{chess}
-use Rattle.chess.specs.declared.sheet.Board.{Board}
+use Rattle.chess.specs.Page.{chess, ChessSheet, blank}
 use Rattle.records.specs.Answers.{well_done}
 use Rattle.records.specs.declared.Operation.{Operation}
-use Rattle.rounds.specs.Pages.{blank}
 use Rattle.rounds.specs.Sheets.{used_at, answer, after}
-use Rattle.rounds.specs.declared.sheets.Sheet.{Sheet}
-
-abbrev pub ChessSheet : Type 0
-ChessSheet = Sheet Board 32 64
 
 -- a hall's sheet after these operations on a new book
 abbrev pub played : List Operation → ChessSheet
-played os = fold (after chess) (blank chess) os
+played os = fold (after chess) blank os
 
 -- all half points of the hall, and the games at its boards
 abbrev pub points_in_all : ChessSheet → ℕ

@@ -1,5 +1,5 @@
 -- What each operation answers and makes of a board.
-use Rattle.std.specs.Prelude.{ℕ, ◌+◌, Bool, true, false, cond, ℤ, pos, Some, None, Ok, Err, Option, Result, ◌==◌, is_some}
+use Rattle.std.specs.Prelude.{ℕ, ◌+◌, Bool, true, cond, ℤ, pos, Some, None, Ok, Err, Option, Result, ◌==◌, is_some}
 use Rattle.chess.specs.Asking.{outcome_number}
 use Rattle.chess.specs.declared.asking.BoardAsk.{BoardAsk}
 use Rattle.chess.specs.declared.asking.BoardAsk.TheVariants.{Seat, Enter, Read}

@@ -64,7 +64,8 @@ pub(crate) fn asked(op: Operation) -> Result<Ask<BoardAsk, BOARDS, PLAYERS>, Fau
     match Kind::try_from(op.kind)? {
         Kind::Seat => Ok(Ask::Cell(place(op.a)?, seating(op)?)),
         Kind::Enter => Ok(Ask::Cell(
-            place(op.a)?, BoardAsk::Enter(op.b, Outcome::try_from(op.c).ok()),
+            place(op.a)?,
+            BoardAsk::Enter(op.b, Outcome::try_from(op.c).ok()),
         )),
         Kind::Read => Ok(Ask::Cell(place(op.a)?, BoardAsk::Read)),
         Kind::Close => Ok(Ask::Close(op.a)),
@@ -77,13 +78,10 @@ pub(crate) fn keys(op: Operation) -> u64
     ensures { result ≡ keys_needed op }
 {
     match Kind::try_from(op.kind) {
-        Ok(Kind::Seat | Kind::Enter | Kind::Read) => {
-            if usize::from(op.a) >= BOARDS {
-                0
-            } else {
-                1 << op.a
-            }
-        }
+        Ok(Kind::Seat | Kind::Enter | Kind::Read) => match place(op.a) {
+            Ok(board) => 1 << board.get(),
+            Err(_) => 0,
+        },
         Ok(Kind::Close) => 0x1_ffff_ffff,
         Ok(Kind::Total) => 1 << 32,
         Err(_) => 0,

@@ -10,11 +10,5 @@ mod sheet;
 pub use asking::BoardAsk;
 pub use kinds::Kind;
 pub use promises::games_give_a_point;
-pub use rules::LAYER;
+pub use rules::{Chess, LAYER};
 pub use sheet::{Board, Game, Outcome};
-
-use book::Halls;
-use rounds::Kept;
-
-// A sheet of boards for each of eight halls.
-pub type Chess = Halls<Kept<Board, 32, 64>>;

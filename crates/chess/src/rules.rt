@@ -3,15 +3,19 @@ ghost use Rattle.std.proofs.Common.{rules};
 ghost use Rattle.std.specs.Prelude.{◌≡◌, ◌≤◌};
 ghost use Rattle.chess.specs.Laws.{chess_fits};
 ghost use Rattle.chess.specs.Page.{chess};
-ghost use Rattle.chess.specs.Rules.{result_number, seat_says, enter_says, with_result, read_says, white_points, black_points};
+ghost use Rattle.chess.specs.Rules.{result_number, seat_says, enter_says, read_says, white_points, black_points};
 
 use super::asking::{BoardAsk, asked, keys};
 use super::sheet::{BOARDS, Board, Game, Outcome, PLAYERS};
+use book::Halls;
 use records::Operation;
-use rounds::{Ask, Cell, Fault};
+use rounds::{Ask, Cell, Fault, Kept};
 
 // The layer of this book's answers.
 pub const LAYER: u8 = 1;
+
+// The book of chess: a sheet of boards for each of eight halls.
+pub type Chess = Halls<Kept<Board, BOARDS, PLAYERS>>;
 
 fn number_of(ended: Option<Outcome>) -> u8
     ensures value { result ≡ result_number ended }
@@ -47,7 +51,7 @@ impl Board {
         ensures { result ≡ seat_says self.game }
     {
         match self.game {
-            Some(Game { result: Some(_), .. }) => Err(Fault::HasResult),
+            Some(game) if game.result.is_some() => Err(Fault::HasResult),
             _ => Ok(0),
         }
     }
@@ -59,9 +63,7 @@ impl Board {
         if round != current {
             return Err(Fault::OtherRound);
         }
-        if ended.is_none() {
-            return Err(Fault::BadResult);
-        }
+        ended.ok_or(Fault::BadResult)?;
         Ok(i32::from(number_of(game.result)))
     }
 
@@ -70,19 +72,6 @@ impl Board {
     {
         let game = self.game.ok_or(Fault::Nothing)?;
         Ok(i32::from(number_of(game.result)))
-    }
-}
-
-// The game with this result.
-fn with_result(game: Option<Game>, ended: Option<Outcome>) -> Option<Game>
-    ensures { result ≡ with_result game ended }
-{
-    match game {
-        None => None,
-        Some(game) => Some(Game {
-            result: ended,
-            ..game
-        }),
     }
 }
 
@@ -128,7 +117,10 @@ impl Cell<BOARDS, PLAYERS> for Board {
                     result: None,
                 });
             }
-            BoardAsk::Enter(_, ended) => self.game = with_result(self.game, ended),
+            BoardAsk::Enter(_, ended) => self.game = self.game.map(|game| Game {
+                result: ended,
+                ..game
+            }),
             BoardAsk::Read => {}
         }
     }
@@ -138,10 +130,7 @@ impl Cell<BOARDS, PLAYERS> for Board {
     }
 
     fn is_settled(&self) -> bool {
-        match self.game {
-            None => true,
-            Some(game) => game.result.is_some(),
-        }
+        self.game.is_none_or(|game| game.result.is_some())
     }
 
     // The half points that player `total` + 1 gains here.

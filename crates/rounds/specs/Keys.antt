@@ -1,6 +1,6 @@
 -- The keys of an operation guard the parts that it reads and writes.
 use Rattle.std.specs.Prelude.{◌≡◌, ℕ, ◌<◌, true, false, cond, not, Ok, Err, Result, ◌==◌, ◌≢◌, nat_lt}
-use Rattle.std.proofs.Common.{inl, inr, sym, subst, ◌∙◌, arith}
+use Rattle.std.proofs.Common.{inl, inr, sym, subst, arith}
 use Rattle.book.proofs.Keys.{Held, held_once}
 use Rattle.book.specs.Model.{Disjoint}
 use Rattle.records.specs.declared.Operation.{Operation}

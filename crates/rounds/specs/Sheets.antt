@@ -1,5 +1,5 @@
 -- What each operation answers and makes of the sheet of a hall.
-use Rattle.std.specs.Prelude.{ℕ, ◌+◌, Bool, cond, ◌&&◌, List, replicate, ℤ, pos, Ok, Err, Result, slice_index, slice_index_or, slice_set}
+use Rattle.std.specs.Prelude.{ℕ, ◌+◌, Bool, cond, ◌&&◌, replicate, ℤ, pos, Ok, Err, Result, slice_index, slice_index_or, slice_set}
 use Rattle.book.specs.Below.{sum_below, some_below, all_below}
 use Rattle.records.specs.declared.Answer.{Answer}
 use Rattle.records.specs.declared.Operation.{Operation}

@@ -1,5 +1,5 @@
 -- Every sheet that is read or made has its size, and what is kept stays kept.
-use Rattle.std.specs.Prelude.{◌≡◌, ℕ, ◌*◌, ◌≤◌, true, List, length, replicate, ℤ, Ok, Err, Result}
+use Rattle.std.specs.Prelude.{◌≡◌, ℕ, ◌*◌, ◌≤◌, true, ℤ, Ok, Err, Result}
 use Rattle.std.proofs.Common.{length-set, inl, inr, sym, subst, ◌∙◌, arith}
 use Rattle.book.proofs.Below.{length-table, get_or-table, sum_bound}
 use Rattle.book.proofs.Tables.{set_keeps}
@@ -9,7 +9,7 @@ use Rattle.rounds.specs.Fits.{Fits}
 use Rattle.rounds.specs.Games.{Game}
 use Rattle.rounds.specs.Kept.{Sized, KeptSheet}
 use Rattle.rounds.specs.Pages.{read, blank}
-use Rattle.rounds.specs.Sheets.{cell, with_cell, gain_at, gained, closed, says, changed, left, made, after}
+use Rattle.rounds.specs.Sheets.{cell, gain_at, gained, closed, says, changed, left, made, after}
 use Rattle.rounds.specs.Totals.{length-raised, small_raised, small_zeros, get_or-replicate_same}
 use Rattle.rounds.specs.declared.Fault.{Fault}
 use Rattle.rounds.specs.declared.asks.Ask.{Ask}
@@ -63,9 +63,6 @@ module _ {C A : Type 0} {cells totals layer : ℕ} (g : Game C A cells totals) (
 
   pub kept_blank : KeptSheet g (blank g)
   kept_blank = record { sized = sized_blank; small = small_zeros 1 totals; early = omega arith }
-
-  pub kept_cell : (s : Sheet C cells totals) (a : ℕ) (ask : A) → KeptSheet g s → KeptSheet g (with_cell g s a (g.changed (cell g s a) ask))
-  kept_cell s a ask h = record { sized = sized_changed s (Cell a ask) h.sized; small = h.small; early = h.early }
 
   pub kept_closed : (s : Sheet C cells totals) → s.round ≤ 99 → KeptSheet g s → KeptSheet g (closed g s)
   kept_closed s last h = record {

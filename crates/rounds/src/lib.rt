@@ -12,9 +12,8 @@ mod sheets;
 
 pub use asks::Ask;
 pub use cells::Cell;
-pub use sheets::{Kept, Sheet};
-
 use records::Answer;
+pub use sheets::Kept;
 use std::error::Error;
 use std::fmt;
 

@@ -83,6 +83,7 @@ impl<C: Cell<CELLS, TOTALS>, const CELLS: usize, const TOTALS: usize> Sheet<C, C
         ensures { result ≡ raised self.now.totals (gained C.game self.now) }
     {
         let mut totals = self.totals;
+        // by index: after `iter_mut().enumerate()` the check knows nothing of the array
         for i in 0..TOTALS {
             totals[i] += self.gained(i);
         }
@@ -97,9 +98,11 @@ pub struct Kept<C: Cell<CELLS, TOTALS>, const CELLS: usize, const TOTALS: usize>
 }
 
 // no derive: the check refuses one over a ghost field
-impl<C: Cell<CELLS, TOTALS>, const CELLS: usize, const TOTALS: usize> Copy for Kept<C, CELLS, TOTALS> {}
+impl<C: Cell<CELLS, TOTALS>, const CELLS: usize, const TOTALS: usize> Copy
+    for Kept<C, CELLS, TOTALS> {}
 
-impl<C: Cell<CELLS, TOTALS>, const CELLS: usize, const TOTALS: usize> Clone for Kept<C, CELLS, TOTALS> {
+impl<C: Cell<CELLS, TOTALS>, const CELLS: usize, const TOTALS: usize> Clone
+    for Kept<C, CELLS, TOTALS> {
     ghost is_clone = { λ k l. l ≡ k };
 
     fn clone(&self) -> Result<Kept<C, CELLS, TOTALS>, AllocError> {
@@ -174,7 +177,8 @@ impl<C: Cell<CELLS, TOTALS>, const CELLS: usize, const TOTALS: usize> Kept<C, CE
     }
 }
 
-impl<C: Cell<CELLS, TOTALS>, const CELLS: usize, const TOTALS: usize> Hall for Kept<C, CELLS, TOTALS> {
+impl<C: Cell<CELLS, TOTALS>, const CELLS: usize, const TOTALS: usize> Hall
+    for Kept<C, CELLS, TOTALS> {
     ghost model = { model C.game };
 
     ghost page = { λ k. write C.game k.sheet };

@@ -1,4 +1,4 @@
-use Rattle.std.proofs.Common.{rules, arith}
+use Rattle.std.proofs.Common.{rules}
 use Rattle.rounds.proofs.sheets.Kept.said.Goals as goal
 
 pub asked-requires : goal.asked-requires

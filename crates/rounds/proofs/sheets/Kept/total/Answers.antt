@@ -6,9 +6,3 @@ overflow_cast-result g c =
     let small = c.args.self.now.kept.small c.args.place in
     let early = c.args.self.now.kept.early in
     search rules
-
-pub returns : goal.returns
-returns g c =
-    let small = c.args.self.now.kept.small c.args.place in
-    let early = c.args.self.now.kept.early in
-    search rules

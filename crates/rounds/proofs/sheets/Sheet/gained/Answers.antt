@@ -14,6 +14,6 @@ loop-cell-preserved g c =
     let inside : i < length s.cells = search rules in
     let item = get_or_default s.cells i c.cell-item.result g.C.Cell.game.empty inside in (
       ap₂ (λ x y. x + y) c.loop-cell.invariant.0 (c.gain-sum.ensures.value ∙ ap (g.C.Cell.game.gain c.args.total) item)
-      ∙ sym (sum_more (gain_at g.C.Cell.game s c.args.total) i),
+          ∙ sym (sum_more (gain_at g.C.Cell.game s c.args.total) i),
       omega (arith, c.loop-cell.invariant.1, c.gain-sum.ensures.few, mul-add g.C.Cell.game.most i 1),
     )

@@ -1,4 +1,4 @@
-use Rattle.std.proofs.Common.{◌≡◌, ◌<◌, ◌||◌, length, sym, ap, ap₂, ◌∙◌, rules}
+use Rattle.std.proofs.Common.{◌<◌, ◌||◌, length, sym, ap, ap₂, ◌∙◌, rules}
 use Rattle.book.proofs.Below.{some_none, some_more, some_at}
 use Rattle.rounds.proofs.sheets.Sheet.is_some_used.Goals as goal
 use Rattle.rounds.specs.Sheets.{used_at}
