@@ -6,6 +6,7 @@ use super::sheet::{DEALS, Entry, PAIRS, TOTALS};
 use records::{Below, Operation};
 use rounds::Fault;
 
+// The kinds of operations by their numbers.
 #[derive(Clone, Copy, Debug, PartialEq, Eq, Hash)]
 pub enum Kind {
     Score = 32,

@@ -42,7 +42,7 @@ fn has_pair(line: Option<Entry>, pair: usize) -> bool
 }
 
 impl Deal {
-    // The line of a North-South pair.
+    // The line of a North-South pair; none past the last.
     pub(crate) fn line(&self, b: usize) -> Option<Entry>
         ensures { result ≡ line self.now b }
     {
@@ -55,6 +55,7 @@ impl Deal {
         ensures value { result ≡ points side self.now b }
         ensures few { result ≤ 16 }
     {
+        // no `sum` here or below: the check does not see that its total fits
         let mut sum = 0;
         for (i, theirs) in self.lines.iter().enumerate() {
             if i != b {
@@ -64,6 +65,7 @@ impl Deal {
         sum
     }
 
+    // What an East-West pair gets.
     #[tactic(auto, using(book::proofs::Below::sum_none, book::proofs::Below::sum_more))]
     fn east_west(&self, pair: usize) -> u32
         ensures value { result ≡ east_west self.now pair }
