@@ -1,12 +1,9 @@
 -- The numbers of classes and statuses.
-use Rattle.std.specs.Prelude.{◌≡◌, ℕ, cond, Some, None, Option, Result, ◌==◌}
-use Rattle.std.specs.Option.{ok_or}
+use Rattle.std.specs.Prelude.{ℕ, cond, Some, None, Option, ◌==◌}
 use Rattle.records.specs.declared.classes.Class.{Class}
 use Rattle.records.specs.declared.classes.Class.TheVariants.{Single, Independent, Coordinated}
 use Rattle.records.specs.declared.classes.Status.{Status}
 use Rattle.records.specs.declared.classes.Status.TheVariants.{Commit, Conflict, Abort}
-use Rattle.records.specs.declared.classes.UnknownClass.{UnknownClass}
-use Rattle.records.specs.declared.classes.UnknownStatus.{UnknownStatus}
 
 abbrev pub class_number : Class → ℕ
 class_number Single = 1
@@ -23,10 +20,3 @@ status_number Abort = 3
 
 abbrev pub status_of : ℕ → Option Status
 status_of n = cond (n == 1) (Some Commit) (cond (n == 2) (Some Conflict) (cond (n == 3) (Some Abort) None))
-
--- a number is read as what it is the number of, and named in the error where it is none's
-abbrev pub ReadsClass : ℕ → Result Class UnknownClass → Type 0
-ReadsClass n r = r ≡ ok_or (class_of n) (record { 0 = n })
-
-abbrev pub ReadsStatus : ℕ → Result Status UnknownStatus → Type 0
-ReadsStatus n r = r ≡ ok_or (status_of n) (record { 0 = n })

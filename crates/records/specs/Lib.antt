@@ -5,3 +5,4 @@ pub mod Halls
 pub mod Messages
 pub mod Finder
 pub mod Below
+pub mod Numbers

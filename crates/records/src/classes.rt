@@ -1,9 +1,9 @@
 // Classes of transactions, and statuses of votes and replies.
 ghost use Rattle.std.specs.Prelude.{◌≡◌};
-ghost use Rattle.records.specs.Classes.{class_number, status_number, ReadsClass, ReadsStatus};
+ghost use Rattle.records.specs.Classes.{class_number, class_of, status_number, status_of};
+ghost use Rattle.records.specs.Numbers.{Reads};
 
-use std::error::Error;
-use std::fmt;
+use super::numbers::UnknownNumber;
 
 // How a transaction's halls work together.
 #[derive(Clone, Copy, Debug, Default, PartialEq, Eq, Hash)]
@@ -24,14 +24,6 @@ pub enum Status {
     Abort = 3,
 }
 
-// A number that is no class's.
-#[derive(Clone, Copy, Debug, PartialEq, Eq, Hash)]
-pub struct UnknownClass(pub u8);
-
-// A number that is no status's.
-#[derive(Clone, Copy, Debug, PartialEq, Eq, Hash)]
-pub struct UnknownStatus(pub u8);
-
 impl From<Class> for u8 {
     ghost from_gives = { λ class number. number ≡ class_number class };
 
@@ -49,49 +41,31 @@ impl From<Status> for u8 {
 }
 
 impl TryFrom<u8> for Class {
-    type Error = UnknownClass;
+    type Error = UnknownNumber;
 
-    ghost try_from_gives = { ReadsClass };
+    ghost try_from_gives = { Reads class_of };
 
-    fn try_from(number: u8) -> Result<Class, UnknownClass> {
+    fn try_from(number: u8) -> Result<Class, UnknownNumber> {
         match number {
             1 => Ok(Class::Single),
             2 => Ok(Class::Independent),
             3 => Ok(Class::Coordinated),
-            _ => Err(UnknownClass(number)),
+            _ => Err(UnknownNumber(number)),
         }
     }
 }
 
 impl TryFrom<u8> for Status {
-    type Error = UnknownStatus;
+    type Error = UnknownNumber;
 
-    ghost try_from_gives = { ReadsStatus };
+    ghost try_from_gives = { Reads status_of };
 
-    fn try_from(number: u8) -> Result<Status, UnknownStatus> {
+    fn try_from(number: u8) -> Result<Status, UnknownNumber> {
         match number {
             1 => Ok(Status::Commit),
             2 => Ok(Status::Conflict),
             3 => Ok(Status::Abort),
-            _ => Err(UnknownStatus(number)),
+            _ => Err(UnknownNumber(number)),
         }
     }
 }
-
-impl fmt::Display for UnknownClass {
-    fn fmt<W: fmt::Write>(&self, f: &mut fmt::Formatter<W>) -> fmt::Result {
-        let number = self.0;
-        write!(f, "no class has the number {number}")
-    }
-}
-
-impl fmt::Display for UnknownStatus {
-    fn fmt<W: fmt::Write>(&self, f: &mut fmt::Formatter<W>) -> fmt::Result {
-        let number = self.0;
-        write!(f, "no status has the number {number}")
-    }
-}
-
-impl Error for UnknownClass {}
-
-impl Error for UnknownStatus {}

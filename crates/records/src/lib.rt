@@ -9,13 +9,15 @@ mod classes;
 mod finder;
 mod halls;
 mod messages;
+mod numbers;
 mod transactions;
 
 pub use below::Below;
-pub use classes::{Class, Status, UnknownClass, UnknownStatus};
+pub use classes::{Class, Status};
 pub use finder::{Bears, first_from};
 pub use halls::{count_of, fits, has};
 pub use messages::{Message, Reply, Request, Vote, is_lawful};
+pub use numbers::UnknownNumber;
 pub use transactions::{
     CONSOLES, LAST_SEQUENCE, LAST_STAMP, console_of, is_stamp, is_transaction, next_stamp,
     sequence_of, worked_stamps,

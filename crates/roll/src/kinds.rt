@@ -1,9 +1,9 @@
 // The kinds of operations that are the roll's own.
 ghost use Rattle.std.specs.Prelude.{◌≡◌};
-ghost use Rattle.roll.specs.Kinds.{kind_number, ReadsKind};
+ghost use Rattle.records.specs.Numbers.{Reads};
+ghost use Rattle.roll.specs.Kinds.{kind_number, kind_of};
 
-use std::error::Error;
-use std::fmt;
+use records::UnknownNumber;
 
 #[derive(Clone, Copy, Debug, PartialEq, Eq, Hash)]
 pub enum Kind {
@@ -15,10 +15,6 @@ pub enum Kind {
     Read = 3,
 }
 
-// A number that is no kind of the roll's own.
-#[derive(Clone, Copy, Debug, PartialEq, Eq, Hash)]
-pub struct UnknownKind(pub u8);
-
 impl From<Kind> for u8 {
     ghost from_gives = { λ kind number. number ≡ kind_number kind };
 
@@ -28,25 +24,16 @@ impl From<Kind> for u8 {
 }
 
 impl TryFrom<u8> for Kind {
-    type Error = UnknownKind;
+    type Error = UnknownNumber;
 
-    ghost try_from_gives = { ReadsKind };
+    ghost try_from_gives = { Reads kind_of };
 
-    fn try_from(number: u8) -> Result<Kind, UnknownKind> {
+    fn try_from(number: u8) -> Result<Kind, UnknownNumber> {
         match number {
             1 => Ok(Kind::Appoint),
             2 => Ok(Kind::Remove),
             3 => Ok(Kind::Read),
-            _ => Err(UnknownKind(number)),
+            _ => Err(UnknownNumber(number)),
         }
     }
 }
-
-impl fmt::Display for UnknownKind {
-    fn fmt<W: fmt::Write>(&self, f: &mut fmt::Formatter<W>) -> fmt::Result {
-        let number = self.0;
-        write!(f, "no kind of the roll has the number {number}")
-    }
-}
-
-impl Error for UnknownKind {}

@@ -10,9 +10,9 @@ mod tokens;
 
 pub use asking::ENTRIES;
 pub use halls::Roll;
-pub use kinds::{Kind, UnknownKind};
+pub use kinds::Kind;
 pub use promises::{entries_stay, removal_empties};
-pub use refusals::{Refusal, UnknownRefusal};
+pub use refusals::Refusal;
 
 // The layer of the roll's own answers.
 pub const LAYER: u8 = 3;

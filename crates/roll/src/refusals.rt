@@ -1,11 +1,10 @@
 // Why the roll does not do an operation, and the numbers of that.
 ghost use Rattle.std.specs.Prelude.{◌≡◌};
-ghost use Rattle.roll.specs.Refusals.{cause, ReadsRefusal, refused};
+ghost use Rattle.records.specs.Numbers.{Reads};
+ghost use Rattle.roll.specs.Refusals.{cause, refusal_of, refused};
 
 use super::LAYER;
-use records::Answer;
-use std::error::Error;
-use std::fmt;
+use records::{Answer, UnknownNumber};
 
 #[derive(Clone, Copy, Debug, PartialEq, Eq, Hash)]
 pub enum Refusal {
@@ -18,10 +17,6 @@ pub enum Refusal {
     // a deputy's token is at least 1
     NoToken = 4,
 }
-
-// A number that is no cause of the roll's.
-#[derive(Clone, Copy, Debug, PartialEq, Eq, Hash)]
-pub struct UnknownRefusal(pub u8);
 
 // Why an operation is refused, and the place of the fault.
 #[derive(Clone, Copy, Debug, PartialEq, Eq, Hash)]
@@ -39,17 +34,17 @@ impl From<Refusal> for u8 {
 }
 
 impl TryFrom<u8> for Refusal {
-    type Error = UnknownRefusal;
+    type Error = UnknownNumber;
 
-    ghost try_from_gives = { ReadsRefusal };
+    ghost try_from_gives = { Reads refusal_of };
 
-    fn try_from(number: u8) -> Result<Refusal, UnknownRefusal> {
+    fn try_from(number: u8) -> Result<Refusal, UnknownNumber> {
         match number {
             1 => Ok(Refusal::NotStanding),
             2 => Ok(Refusal::NotChief),
             3 => Ok(Refusal::NoEntry),
             4 => Ok(Refusal::NoToken),
-            _ => Err(UnknownRefusal(number)),
+            _ => Err(UnknownNumber(number)),
         }
     }
 }
@@ -61,12 +56,3 @@ impl From<Refused> for Answer {
         Answer::fault(LAYER, u8::from(r.why), r.place)
     }
 }
-
-impl fmt::Display for UnknownRefusal {
-    fn fmt<W: fmt::Write>(&self, f: &mut fmt::Formatter<W>) -> fmt::Result {
-        let number = self.0;
-        write!(f, "no cause of the roll has the number {number}")
-    }
-}
-
-impl Error for UnknownRefusal {}

@@ -1,9 +1,8 @@
 -- Faults and answers.
-use Rattle.std.specs.Prelude.{◌≡◌, ℕ, cond, ℤ, Some, None, Ok, Err, Option, Result, ◌==◌, ok_or}
+use Rattle.std.specs.Prelude.{ℕ, cond, ℤ, Some, None, Ok, Err, Option, Result, ◌==◌}
 use Rattle.records.specs.Answers.{done_with, fault_at}
 use Rattle.records.specs.declared.Answer.{Answer}
 use Rattle.rounds.specs.declared.Fault.{Fault}
-use Rattle.rounds.specs.declared.UnknownFault.{UnknownFault}
 use Rattle.rounds.specs.declared.Fault.TheVariants.{NoPlace, NoParty, HasResult, Nothing, OtherRound, BadResult, NotClosable, Elsewhere, UnknownKind}
 
 -- the cause of each fault
@@ -29,10 +28,6 @@ fault_of n =
     (cond (n == 7) (Some NotClosable)
     (cond (n == 8) (Some Elsewhere)
     (cond (n == 9) (Some UnknownKind) None))))))))
-
--- a number is read as the fault that it is the cause of, and named in the error where it is none's
-abbrev pub ReadsFault : ℕ → Result Fault UnknownFault → Type 0
-ReadsFault n r = r ≡ ok_or (fault_of n) (record { 0 = n })
 
 -- the answer of a book of this layer: the value of what is well done, or the fault with a as its place
 abbrev pub answered : ℕ → Result ℤ Fault → ℕ → Answer

@@ -3,7 +3,8 @@
 #![tactic(auto)]
 
 ghost use Rattle.std.specs.Prelude.{◌≡◌};
-ghost use Rattle.rounds.specs.Faults.{fault_number, ReadsFault, answered};
+ghost use Rattle.records.specs.Numbers.{Reads};
+ghost use Rattle.rounds.specs.Faults.{fault_number, fault_of, answered};
 ghost use Rattle.rounds.specs.Rounds.{in_turn};
 
 mod asks;
@@ -12,10 +13,8 @@ mod sheets;
 
 pub use asks::Ask;
 pub use cells::Cell;
-use records::Answer;
+use records::{Answer, UnknownNumber};
 pub use sheets::Kept;
-use std::error::Error;
-use std::fmt;
 
 // Why an operation is not done.
 #[derive(Clone, Copy, Debug, PartialEq, Eq, Hash)]
@@ -35,10 +34,6 @@ pub enum Fault {
     UnknownKind = 9,
 }
 
-// A number that is no fault's cause.
-#[derive(Clone, Copy, Debug, PartialEq, Eq, Hash)]
-pub struct UnknownFault(pub u8);
-
 // Its cause in an answer.
 impl From<Fault> for u8 {
     ghost from_gives = { λ fault cause. cause ≡ fault_number fault };
@@ -49,11 +44,11 @@ impl From<Fault> for u8 {
 }
 
 impl TryFrom<u8> for Fault {
-    type Error = UnknownFault;
+    type Error = UnknownNumber;
 
-    ghost try_from_gives = { ReadsFault };
+    ghost try_from_gives = { Reads fault_of };
 
-    fn try_from(cause: u8) -> Result<Fault, UnknownFault> {
+    fn try_from(cause: u8) -> Result<Fault, UnknownNumber> {
         match cause {
             1 => Ok(Fault::NoPlace),
             2 => Ok(Fault::NoParty),
@@ -64,19 +59,10 @@ impl TryFrom<u8> for Fault {
             7 => Ok(Fault::NotClosable),
             8 => Ok(Fault::Elsewhere),
             9 => Ok(Fault::UnknownKind),
-            _ => Err(UnknownFault(cause)),
+            _ => Err(UnknownNumber(cause)),
         }
     }
 }
-
-impl fmt::Display for UnknownFault {
-    fn fmt<W: fmt::Write>(&self, f: &mut fmt::Formatter<W>) -> fmt::Result {
-        let cause = self.0;
-        write!(f, "no fault has the cause {cause}")
-    }
-}
-
-impl Error for UnknownFault {}
 
 // The answer to an operation whose number a is `place`: the value of what is well done, or the fault.
 pub fn answer_with(layer: u8, said: Result<i32, Fault>, place: u16) -> Answer
