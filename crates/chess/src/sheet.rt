@@ -3,6 +3,7 @@ ghost use Rattle.std.specs.Prelude.{◌≡◌};
 ghost use Rattle.chess.specs.Asking.{outcome_number, ReadsOutcome};
 
 use rounds::Fault;
+use std::fmt;
 
 pub(crate) const BOARDS: usize = 32;
 
@@ -36,6 +37,17 @@ impl TryFrom<i32> for Outcome {
             3 => Ok(Outcome::Black),
             _ => Err(Fault::BadResult),
         }
+    }
+}
+
+// As a scoresheet writes it.
+impl fmt::Display for Outcome {
+    fn fmt<W: fmt::Write>(&self, f: &mut fmt::Formatter<W>) -> fmt::Result {
+        f.write_str(match self {
+            Outcome::White => "1-0",
+            Outcome::Draw => "1/2",
+            Outcome::Black => "0-1",
+        })
     }
 }
 
