@@ -4,6 +4,7 @@
 mod asking;
 mod closing;
 mod halls;
+mod kinds;
 mod points;
 mod promises;
 mod rules;
@@ -11,6 +12,7 @@ mod sheet;
 mod state;
 
 pub use asking::{CLOSE, READ, SCORE, TOTAL};
+pub use kinds::Kind;
 pub use promises::sides_share_points;
 pub use rules::LAYER;
 pub use state::Bridge;

@@ -4,12 +4,14 @@
 mod asking;
 mod closing;
 mod halls;
+mod kinds;
 mod promises;
 mod rules;
 mod sheet;
 mod state;
 
 pub use asking::{CLOSE, ENTER, READ, SEAT, TOTAL};
+pub use kinds::Kind;
 pub use promises::games_give_a_point;
 pub use rules::LAYER;
 pub use state::Chess;

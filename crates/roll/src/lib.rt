@@ -3,9 +3,11 @@
 
 mod asking;
 mod halls;
+mod kinds;
 mod promises;
 mod tokens;
 
 pub use asking::{APPOINT, ENTRIES, READ_ENTRY, REMOVE};
 pub use halls::{LAYER, Roll};
+pub use kinds::Kind;
 pub use promises::{entries_stay, removal_empties};
