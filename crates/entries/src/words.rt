@@ -1,7 +1,31 @@
 // A text cut into lines, and a line into words.
-ghost use Rattle.std.specs.Prelude.{◌≡◌, ◌+◌, ◌<◌};
+ghost use Rattle.std.specs.Prelude.{◌≡◌, ℕ, Bool, ◌+◌, ◌<◌, ◌≤◌, length};
+ghost use Rattle.std.specs.List.{position_or_len};
 ghost use Rattle.std.specs.Iterator.{YieldsFirstBy, item_count};
-ghost use Rattle.entries.specs.Words.{blank, lines, first_word, past_word};
+ghost use Rattle.entries.specs.Words.{blank, line_of, rest_of, lines, first_word, past_word};
+
+// How many bytes stand before the first at which `ends` answers true.
+fn length_until<F: Fn(u8) -> bool>(text: &[u8], ends: F) -> usize
+    requires { F.IsAlwaysCallable ends }
+    ensures place { (p : ℕ → Bool) → ((b : ℕ) (r : Bool) → F.post ends b r → r ≡ p b) → result ≡ position_or_len p text.now }
+    ensures within { result ≤ length text.now }
+{
+    text.iter()
+        .position(|byte| ends(*byte))
+        .unwrap_or(text.len())
+}
+
+// The first line of a text, and what follows it.
+fn first_line<'a>(text: &'a [u8]) -> (&'a [u8], &'a [u8])
+    ensures line { result.0.now ≡ line_of text.now }
+    ensures rest { result.1.now ≡ rest_of text.now }
+{
+    let (line, rest) = text.split_at(length_until(text, |byte| byte == b'\n'));
+    match rest {
+        [] => (line, rest),
+        [_, after @ ..] => (line, after),
+    }
+}
 
 // The lines of a text that are still to come.
 #[derive(Clone, Copy)]
@@ -14,21 +38,14 @@ impl<'a> Iterator for Lines<'a> {
 
     ghost remaining = { item_count (λ s. lines s.0.now) };
 
+    #[tactic(auto, using(crate::proofs::Runs::lines_cut))]
     fn next(&mut self) -> Option<&'a [u8]> {
-        let text = self.0;
-        if text.is_empty() {
+        if self.0.is_empty() {
             return None;
         }
-        match text.iter().position(|byte| *byte == b'\n') {
-            Some(end) => {
-                self.0 = &text[end + 1..];
-                Some(&text[..end])
-            }
-            None => {
-                self.0 = &[];
-                Some(text)
-            }
-        }
+        let (line, rest) = first_line(self.0);
+        self.0 = rest;
+        Some(line)
     }
 }
 
@@ -78,11 +95,10 @@ impl<'a> Words<'a> {
         ensures rest { self.new.rest.now ≡ past_word self.old.rest.now }
         ensures further { self.new.place ≡ self.old.place + 1 }
     {
-        let line = self.rest;
-        let start = line.iter().position(|byte| !is_blank(*byte)).unwrap_or(line.len());
-        let from = &line[start..];
-        let end = from.iter().position(|byte| is_blank(*byte)).unwrap_or(from.len());
-        let (text, rest) = from.split_at(end);
+        let (_, from) = self
+            .rest
+            .split_at(length_until(self.rest, |byte| !is_blank(byte)));
+        let (text, rest) = from.split_at(length_until(from, is_blank));
         let place = self.place;
         self.rest = rest;
         self.place += 1;
