@@ -1,5 +1,5 @@
 -- The bytes up to the first that passes, and a text in lines.
-use Rattle.std.proofs.Common.{◌≡◌, ℕ, suc, ◌<◌, ◌≤◌, Bool, true, false, cond, ltb, not, List, [], ◌∷◌, ◌+◌, length, take, drop, Some, None, unwrap_or, refl, ap, ◌∙◌, position, arith}
+use Rattle.std.proofs.Common.{◌≡◌, ℕ, suc, ◌<◌, ◌≤◌, Bool, true, false, cond, ltb, not, List, [], ◌∷◌, ◌+◌, length, take, drop, Some, None, unwrap_or, refl, ap, ◌∙◌, position, arith, rules}
 use Rattle.std.proofs.lemmas.Bool.{cond_both}
 use Rattle.std.proofs.lemmas.Bool.Decides.{nat_tests}
 use Rattle.std.proofs.lemmas.List.Sums.{prefix_len-le-length}
@@ -32,3 +32,16 @@ lines_first b (x ∷ xs) = first_by (newline b) b (x ∷ xs) (ap (onto b) (lines
 pub lines_cut : (text : List ℕ) → 0 < length text → lines text ≡ line_of text ∷ lines (rest_of text)
 lines_cut [] h = absurd (omega arith)
 lines_cut (b ∷ bs) h = lines_first b bs
+
+-- a text has no more lines than bytes
+pub lines_few : (text : List ℕ) → length (lines text) ≤ length text
+lines_few [] = search rules
+lines_few (b ∷ bs) =
+    let few = lines_few bs in
+    cond_both (newline b) ([] ∷ lines bs) (onto b (lines bs)) (λ ls. length ls ≤ suc (length bs))
+    (λ _. omega arith)
+    (λ _. onto_few b (lines bs) few)
+  where
+    onto_few : (x : ℕ) (ls : List (List ℕ)) → length ls ≤ length bs → length (onto x ls) ≤ suc (length bs)
+    onto_few x [] h = omega arith
+    onto_few x (l ∷ ls) h = omega arith
