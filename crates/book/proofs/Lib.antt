@@ -3,3 +3,4 @@ pub mod Below
 pub mod Keys
 pub mod Parts
 pub mod Tables
+pub mod Turned

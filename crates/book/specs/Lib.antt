@@ -3,3 +3,4 @@ pub mod Apart
 pub mod Below
 pub mod Sheets
 pub mod Numbers
+pub mod Halls

@@ -5,6 +5,9 @@ ghost use Rattle.std.specs.Prelude.{◌≡◌, ℕ, true, ◌==◌, bit_and};
 ghost use Rattle.book.specs.Apart.{Pass, apart};
 ghost use Rattle.book.specs.Model.{Page, Model, Lawful, told, turned};
 
+mod halls;
+
+pub use halls::{Hall, Halls};
 use records::{Answer, Operation};
 
 // Halls are numbered from 0.

@@ -1,10 +1,7 @@
+-- The book of chess: what is its own in a book of rounds.
+pub mod Kinds
 pub mod Asking
 pub mod Rules
 pub mod Page
-pub mod Kept
-pub mod Promises
 pub mod Laws
-pub mod Keys
-pub mod Parts
-pub mod Pages
-pub mod Sizes
+pub mod Promises

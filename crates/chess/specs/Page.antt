@@ -1,54 +1,60 @@
--- The page of a hall: the round; for each of 32 boards 1, white, black and result, or four zeros where it is empty;
--- the totals of players 1 to 64.
-use Rattle.std.specs.Prelude.{ℕ, ◌+◌, ◌*◌, cond, List, [], ◌∷◌, ◌++◌, replicate, ℤ, pos, ◌==◌, slice_index, slice_index_or}
-use Rattle.book.specs.Below.{table, rows}
+-- The book of chess as a book of rounds. The page of a hall has the round; for each of 32 boards 1, white, black and
+-- result, or four zeros where it is empty; the totals of players 1 to 64.
+use Rattle.std.specs.Prelude.{ℕ, ◌+◌, cond, true, List, [], ◌∷◌, ℤ, pos, Some, None, Option, ◌==◌}
 use Rattle.book.specs.Model.{Page, Model}
 use Rattle.book.specs.Numbers.{natural, at}
-use Rattle.book.specs.Sheets.{Sheets, sheet_model}
-use Rattle.chess.specs.Asking.{outcome, keys}
-use Rattle.chess.specs.Rules.{board, result_number, no_games, answer, after}
+use Rattle.chess.specs.Asking.{outcome, asked, keys}
+use Rattle.chess.specs.Rules.{empty, result_number, says, changed, seated, finished, gain}
+use Rattle.chess.specs.declared.asking.BoardAsk.{BoardAsk}
 use Rattle.chess.specs.declared.sheet.Board.{Board}
-use Rattle.chess.specs.declared.sheet.Board.TheVariants.{Empty, Seated}
-use Rattle.chess.specs.declared.sheet.Sheet.{Sheet}
+use Rattle.chess.specs.declared.sheet.Game.{Game as SeatedGame}
+use Rattle.rounds.specs.Games.{Game}
+use Rattle.rounds.specs.Pages.{model, write as sheet_page, blank as new_sheet}
+use Rattle.rounds.specs.declared.sheets.Sheet.{Sheet}
+
+abbrev pub game_numbers : Option SeatedGame → List ℤ
+game_numbers None = pos 0 ∷ pos 0 ∷ pos 0 ∷ pos 0 ∷ []
+game_numbers (Some g) = pos 1 ∷ pos g.white ∷ pos g.black ∷ pos (result_number g.result) ∷ []
 
 abbrev pub board_numbers : Board → List ℤ
-board_numbers Empty = pos 0 ∷ pos 0 ∷ pos 0 ∷ pos 0 ∷ []
-board_numbers (Seated g) = pos 1 ∷ pos g.white ∷ pos g.black ∷ pos (result_number g.result) ∷ []
-
-abbrev pub write : Sheet → Page
-write s = pos s.round ∷ (rows 32 (λ a. board_numbers (board s a)) ++ table 64 (λ i. pos (slice_index s.totals i)))
+board_numbers x = game_numbers x.game
 
 abbrev pub board_from : ℤ → ℤ → ℤ → ℤ → Board
 board_from there white black result =
-    cond (natural there == 1) (Seated (record { white = natural white; black = natural black; result = outcome result })) Empty
+    cond (natural there == 1) (record { game = Some (record { white = natural white; black = natural black; result = outcome result }) }) empty
 
 -- the board whose numbers begin at place i
 abbrev pub read_board : Page → ℕ → Board
 read_board p i = board_from (at p i) (at p (i + 1)) (at p (i + 2)) (at p (i + 3))
 
-abbrev pub read : Page → Sheet
-read p = record {
-  round = natural (at p 0);
-  boards = table 32 (λ a. read_board p (1 + 4 * a));
-  totals = table 64 (λ i. natural (at p (129 + i)));
+-- total i is that of player i + 1
+abbrev pub chess : Game Board BoardAsk 32 64
+chess = record {
+  layer = 1;
+  asked = asked;
+  keys = keys;
+  empty = empty;
+  sized = λ _. true;
+  says = says;
+  changed = changed;
+  used = seated;
+  settled = finished;
+  gain = λ i. gain (i + 1);
+  most = 4;
+  numbers = board_numbers;
+  width = 4;
+  read = read_board;
 }
 
-abbrev pub chess_sheets : Sheets Sheet
-chess_sheets = record { layer = 1; write = write; read = read; keys = keys; answer = answer; after = after }
-
 abbrev pub chess_model : Model
-chess_model = sheet_model chess_sheets
+chess_model = model chess
 
-unfoldable pub no_points : List ℕ
-no_points = replicate 64 0
+abbrev pub ChessSheet : Type 0
+ChessSheet = Sheet Board 32 64
+
+abbrev pub write : ChessSheet → Page
+write = sheet_page chess
 
 -- round 1, empty boards and no points
-abbrev pub blank : Sheet
-blank = record { round = 1; boards = no_games; totals = no_points }
-
--- the sheet and the page of a hall, of the sheets of all halls
-abbrev pub sheet_of : List Sheet → ℕ → Sheet
-sheet_of sheets h = slice_index_or sheets h blank
-
-abbrev pub page_of : List Sheet → ℕ → Page
-page_of sheets h = write (sheet_of sheets h)
+abbrev pub blank : ChessSheet
+blank = new_sheet chess

@@ -1,43 +1,28 @@
 // What an operation asks of the book of chess, as far as its own numbers tell.
-ghost use Rattle.std.specs.Prelude.{◌≡◌, ◌<◌};
+ghost use Rattle.std.specs.Prelude.{◌≡◌, ok_or};
 ghost use Rattle.book.specs.Numbers.{natural as natural_part};
-ghost use Rattle.chess.specs.Asking.{player, outcome, asked_seat, at_board, asked, Within, keys as keys_needed};
+ghost use Rattle.chess.specs.Asking.{player, place, party, seating, at_board, asked, keys as keys_needed};
 
+use super::kinds::Kind;
 use super::sheet::{BOARDS, Outcome, PLAYERS};
-use records::Operation;
-use rounds::Fault;
+use records::{Below, Operation};
+use rounds::{Ask, Fault};
 
-pub const SEAT: u8 = 16;
-
-pub const ENTER: u8 = 17;
-
-pub const READ: u8 = 18;
-
-pub const CLOSE: u8 = 19;
-
-pub const TOTAL: u8 = 20;
-
-#[derive(Clone, Copy)]
-pub enum Ask {
-    // board, white, black
-    Seat(u8, u8, u8),
-    // board, round, and the result if it is one
-    Enter(u8, u16, Option<Outcome>),
-    // board
-    Read(u8),
-    // round
-    Close(u16),
-    // player
-    Total(u8),
-    // what no page would let the book do
-    Refuse(Fault),
+// What is asked of a board.
+#[derive(Clone, Copy, Debug, PartialEq, Eq, Hash)]
+pub enum BoardAsk {
+    // white, black
+    Seat(u8, u8),
+    // round, and the result if it is one
+    Enter(u16, Option<Outcome>),
+    Read,
 }
 
 // The number itself, or 0 where it is negative.
 fn natural(c: i32) -> usize
     ensures { result ≡ natural_part c }
 {
-    if c < 0 { 0 } else { c as usize }
+    c.max(0) as usize
 }
 
 fn is_player(n: usize) -> bool
@@ -46,60 +31,45 @@ fn is_player(n: usize) -> bool
     n >= 1 && n <= PLAYERS
 }
 
-fn outcome_of(c: i32) -> Option<Outcome>
-    ensures { result ≡ outcome c }
+fn place(a: u16) -> Result<Below<BOARDS>, Fault>
+    ensures { result ≡ place a }
 {
-    match natural(c) {
-        1 => Some(Outcome::White),
-        2 => Some(Outcome::Draw),
-        3 => Some(Outcome::Black),
-        _ => None,
-    }
+    Below::new(usize::from(a)).ok_or(Fault::NoPlace)
 }
 
-fn ask_seat(op: Operation) -> Ask
-    requires { op.a < 32 }
-    ensures value { result ≡ asked_seat op }
-    ensures within { Within result }
+// A player's place among the totals.
+fn party(a: u16) -> Result<Below<PLAYERS>, Fault>
+    ensures { result ≡ party a }
+{
+    if a == 0 {
+        return Err(Fault::NoParty);
+    }
+    Below::new(usize::from(a) - 1).ok_or(Fault::NoParty)
+}
+
+fn seating(op: Operation) -> Result<BoardAsk, Fault>
+    ensures { result ≡ seating op }
 {
     let white = usize::from(op.b);
     let black = natural(op.c);
     if !is_player(white) || !is_player(black) || white == black {
-        return Ask::Refuse(Fault::NoParty);
+        return Err(Fault::NoParty);
     }
-    Ask::Seat(op.a as u8, white as u8, black as u8)
+    Ok(BoardAsk::Seat(white as u8, black as u8))
 }
 
-pub(crate) fn ask_of(op: Operation) -> Ask
-    ensures value { result ≡ asked op }
-    ensures within { Within result }
+pub(crate) fn asked(op: Operation) -> Result<Ask<BoardAsk, BOARDS, PLAYERS>, Fault>
+    ensures { result ≡ asked op }
 {
-    match op.kind {
-        SEAT | ENTER | READ => ask_of_board(op),
-        CLOSE => Ask::Close(op.a),
-        TOTAL => {
-            if is_player(usize::from(op.a)) {
-                Ask::Total(op.a as u8)
-            } else {
-                Ask::Refuse(Fault::NoParty)
-            }
-        }
-        _ => Ask::Refuse(Fault::UnknownKind),
-    }
-}
-
-// What is asked of board a.
-fn ask_of_board(op: Operation) -> Ask
-    ensures value { result ≡ at_board op }
-    ensures within { Within result }
-{
-    if usize::from(op.a) >= BOARDS {
-        return Ask::Refuse(Fault::NoPlace);
-    }
-    match op.kind {
-        SEAT => ask_seat(op),
-        ENTER => Ask::Enter(op.a as u8, op.b, outcome_of(op.c)),
-        _ => Ask::Read(op.a as u8),
+    match Kind::try_from(op.kind)? {
+        Kind::Seat => Ok(Ask::Cell(place(op.a)?, seating(op)?)),
+        Kind::Enter => Ok(Ask::Cell(
+            place(op.a)?,
+            BoardAsk::Enter(op.b, Outcome::try_from(op.c).ok()),
+        )),
+        Kind::Read => Ok(Ask::Cell(place(op.a)?, BoardAsk::Read)),
+        Kind::Close => Ok(Ask::Close(op.a)),
+        Kind::Total => Ok(Ask::Total(party(op.a)?)),
     }
 }
 
@@ -107,16 +77,13 @@ fn ask_of_board(op: Operation) -> Ask
 pub(crate) fn keys(op: Operation) -> u64
     ensures { result ≡ keys_needed op }
 {
-    match op.kind {
-        SEAT | ENTER | READ => {
-            if usize::from(op.a) >= BOARDS {
-                0
-            } else {
-                1 << op.a
-            }
-        }
-        CLOSE => 0x1_ffff_ffff,
-        TOTAL => 1 << 32,
-        _ => 0,
+    match Kind::try_from(op.kind) {
+        Ok(Kind::Seat | Kind::Enter | Kind::Read) => match place(op.a) {
+            Ok(board) => 1 << board.get(),
+            Err(_) => 0,
+        },
+        Ok(Kind::Close) => 0x1_ffff_ffff,
+        Ok(Kind::Total) => 1 << 32,
+        Err(_) => 0,
     }
 }

@@ -2,16 +2,18 @@
 #![tactic(auto)]
 
 mod asking;
-mod closing;
-mod halls;
 mod kinds;
 mod promises;
 mod rules;
 mod sheet;
-mod state;
 
-pub use asking::{CLOSE, ENTER, READ, SEAT, TOTAL};
+pub use asking::BoardAsk;
+use book::Halls;
 pub use kinds::Kind;
 pub use promises::games_give_a_point;
+use rounds::Kept;
 pub use rules::LAYER;
-pub use state::Chess;
+pub use sheet::{Board, Game, Outcome};
+
+// A sheet of boards for each of eight halls.
+pub type Chess = Halls<Kept<Board, 32, 64>>;

@@ -1,35 +1,54 @@
-// What one hall's page of chess holds.
+// The boards of a hall.
+ghost use Rattle.std.specs.Prelude.{◌≡◌};
+ghost use Rattle.chess.specs.Asking.{outcome_number, ReadsOutcome};
+
+use rounds::Fault;
 
 pub(crate) const BOARDS: usize = 32;
 
 pub(crate) const PLAYERS: usize = 64;
 
 // How a game ended.
-#[derive(Clone, Copy)]
+#[derive(Clone, Copy, Debug, PartialEq, Eq, Hash)]
 pub enum Outcome {
-    White,
-    Draw,
-    Black,
+    White = 1,
+    Draw = 2,
+    Black = 3,
+}
+
+impl From<Outcome> for u8 {
+    ghost from_gives = { λ outcome number. number ≡ outcome_number outcome };
+
+    fn from(outcome: Outcome) -> u8 {
+        outcome as u8
+    }
+}
+
+impl TryFrom<i32> for Outcome {
+    type Error = Fault;
+
+    ghost try_from_gives = { ReadsOutcome };
+
+    fn try_from(number: i32) -> Result<Outcome, Fault> {
+        match number {
+            1 => Ok(Outcome::White),
+            2 => Ok(Outcome::Draw),
+            3 => Ok(Outcome::Black),
+            _ => Err(Fault::BadResult),
+        }
+    }
 }
 
 // The players by their numbers, and how their game ended if it has.
-#[derive(Clone, Copy)]
+#[derive(Clone, Copy, Debug, PartialEq, Eq, Hash)]
 pub struct Game {
     pub white: u8,
     pub black: u8,
     pub result: Option<Outcome>,
 }
 
-#[derive(Clone, Copy)]
-pub enum Board {
-    Empty,
-    Seated(Game),
-}
-
-// The totals are in half points, player 1's first.
-#[derive(Clone, Copy)]
-pub struct Sheet {
-    pub round: u16,
-    pub boards: [Board; BOARDS],
-    pub totals: [u32; PLAYERS],
+// A board, with the game that is seated at it if there is one.
+#[derive(Clone, Copy, Debug, PartialEq, Eq, Hash)]
+pub struct Board {
+    pub game: Option<Game>,
 }

@@ -1,48 +1,82 @@
-// What the books of chess and bridge share: their faults and answers, and the closing of a round.
+// What the books of chess and bridge share: faults and answers, a sheet of cells and totals for each hall, and the
+// closing of a round.
 #![tactic(auto)]
 
-ghost use Rattle.std.specs.Prelude.{◌≡◌, ℕ, ◌<◌, ◌≤◌, length};
-ghost use Rattle.rounds.specs.Faults.{fault_number, answered};
-ghost use Rattle.rounds.specs.Rounds.{in_turn, raised, Small};
+ghost use Rattle.std.specs.Prelude.{◌≡◌};
+ghost use Rattle.rounds.specs.Faults.{fault_number, ReadsFault, answered};
+ghost use Rattle.rounds.specs.Rounds.{in_turn};
 
+mod asks;
+mod cells;
+mod sheets;
+
+pub use asks::Ask;
+pub use cells::Cell;
 use records::Answer;
+pub use sheets::{Kept, Sheet};
+use std::error::Error;
+use std::fmt;
 
 // Why an operation is not done.
-#[derive(Clone, Copy)]
+#[derive(Clone, Copy, Debug, PartialEq, Eq, Hash)]
 pub enum Fault {
     // no such board or deal
-    NoPlace,
+    NoPlace = 1,
     // no such player or pair
-    NoParty,
-    HasResult,
+    NoParty = 2,
+    HasResult = 3,
     // nobody is seated, or there is no line
-    Nothing,
-    OtherRound,
-    BadResult,
-    NotClosable,
+    Nothing = 4,
+    OtherRound = 5,
+    BadResult = 6,
+    NotClosable = 7,
     // the pair is on another line of the deal
-    Elsewhere,
-    UnknownKind,
+    Elsewhere = 8,
+    UnknownKind = 9,
 }
 
-impl Fault {
-    // Its cause in an answer.
-    pub fn number(self) -> u8
-        ensures { result ≡ fault_number self }
-    {
-        match self {
-            Fault::NoPlace => 1,
-            Fault::NoParty => 2,
-            Fault::HasResult => 3,
-            Fault::Nothing => 4,
-            Fault::OtherRound => 5,
-            Fault::BadResult => 6,
-            Fault::NotClosable => 7,
-            Fault::Elsewhere => 8,
-            Fault::UnknownKind => 9,
+// A number that is no fault's cause.
+#[derive(Clone, Copy, Debug, PartialEq, Eq, Hash)]
+pub struct UnknownFault(pub u8);
+
+// Its cause in an answer.
+impl From<Fault> for u8 {
+    ghost from_gives = { λ fault cause. cause ≡ fault_number fault };
+
+    fn from(fault: Fault) -> u8 {
+        fault as u8
+    }
+}
+
+impl TryFrom<u8> for Fault {
+    type Error = UnknownFault;
+
+    ghost try_from_gives = { ReadsFault };
+
+    fn try_from(cause: u8) -> Result<Fault, UnknownFault> {
+        match cause {
+            1 => Ok(Fault::NoPlace),
+            2 => Ok(Fault::NoParty),
+            3 => Ok(Fault::HasResult),
+            4 => Ok(Fault::Nothing),
+            5 => Ok(Fault::OtherRound),
+            6 => Ok(Fault::BadResult),
+            7 => Ok(Fault::NotClosable),
+            8 => Ok(Fault::Elsewhere),
+            9 => Ok(Fault::UnknownKind),
+            _ => Err(UnknownFault(cause)),
         }
     }
 }
+
+impl fmt::Display for UnknownFault {
+    fn fmt<W: fmt::Write>(&self, f: &mut fmt::Formatter<W>) -> fmt::Result {
+        let cause = self.0;
+        write!(f, "no fault has the cause {cause}")
+    }
+}
+
+impl Error for UnknownFault {}
 
 // The answer to an operation whose number a is `place`: the value of what is well done, or the fault.
 pub fn answer_with(layer: u8, said: Result<i32, Fault>, place: u16) -> Answer
@@ -50,7 +84,7 @@ pub fn answer_with(layer: u8, said: Result<i32, Fault>, place: u16) -> Answer
 {
     match said {
         Ok(value) => Answer::done(layer, value),
-        Err(fault) => Answer::fault(layer, fault.number(), place),
+        Err(fault) => Answer::fault(layer, u8::from(fault), place),
     }
 }
 
@@ -62,25 +96,4 @@ pub fn is_in_turn(current: u16, round: u16) -> bool
     ensures { result ≡ in_turn current round }
 {
     round == current && round <= LAST_ROUND
-}
-
-// What a round gives to each of at most 64 totals.
-pub trait Gains {
-    ghost gain: { Self → ℕ → ℕ };
-
-    fn gained(&self, i: usize) -> u32
-        requires { i < 64 }
-        ensures value { result ≡ gain self.now i }
-        ensures few { result ≤ 2048 };
-}
-
-// Adds to each total what the round gives to it.
-pub fn raise<G: Gains>(totals: &mut [u32], round: u16, gains: &G)
-    requires few { length totals.old ≤ 64 }
-    requires small { Small round totals.old }
-    ensures { totals.new ≡ raised totals.old (G.gain gains.now) }
-{
-    for i in 0..totals.len() {
-        totals[i] += gains.gained(i);
-    }
 }
