@@ -1,34 +1,66 @@
 -- What an operation asks of the book of bridge, as far as its own numbers tell, and its keys.
-use Rattle.std.specs.Prelude.{ℕ, ◌+◌, ◌%◌, ◌^◌, ◌<◌, Bool, cond, ◌&&◌, ◌||◌, ℤ, ◌==◌, nat_le, unsigned_abs}
-use Rattle.bridge.specs.declared.asking.Ask.{Ask}
-use Rattle.bridge.specs.declared.asking.Ask.TheVariants.{Score, Read, Close, Total, Refuse}
+use Rattle.std.specs.Prelude.{◌≡◌, ℕ, ◌+◌, ◌%◌, ◌^◌, Bool, cond, ◌&&◌, ◌||◌, ℤ, Ok, Err, Result, ◌==◌, nat_le, unsigned_abs}
+use Rattle.bridge.specs.declared.asking.DealAsk.{DealAsk}
+use Rattle.bridge.specs.declared.asking.DealAsk.TheVariants.{Score, Read}
+use Rattle.bridge.specs.declared.asking.Kind.{Kind}
+use Rattle.bridge.specs.declared.asking.Kind.TheVariants as kinds
 use Rattle.records.specs.declared.Operation.{Operation}
+use Rattle.rounds.specs.declared.Fault.{Fault}
+use Rattle.rounds.specs.declared.asks.Ask.{Ask as AskOf}
+use Rattle.rounds.specs.declared.asks.Ask.TheVariants.{Cell, Close, Total}
 use Rattle.rounds.specs.declared.Fault.TheVariants.{NoPlace, NoParty, BadResult, UnknownKind}
+
+abbrev pub kind_number : Kind → ℕ
+kind_number kinds.Score = 32
+kind_number kinds.Read = 33
+kind_number kinds.Close = 34
+kind_number kinds.Total = 35
+
+abbrev pub kind_of : ℕ → Result Kind Fault
+kind_of n =
+    cond (n == 32) (Ok kinds.Score)
+    (cond (n == 33) (Ok kinds.Read)
+    (cond (n == 34) (Ok kinds.Close)
+    (cond (n == 35) (Ok kinds.Total) (Err UnknownKind))))
+
+abbrev pub ReadsKind : ℕ → Result Kind Fault → Type 0
+ReadsKind n r = r ≡ kind_of n
 
 -- a score is at most 7600 either way, and a multiple of 10
 abbrev pub fair : ℤ → Bool
 fair c = nat_le (unsigned_abs c) 7600 && unsigned_abs c % 10 == 0
 
+-- what is asked of one of 16 deals or totals
+abbrev pub Ask : Type 0
+Ask = AskOf DealAsk 16 16
+
+-- deals 0 to 15, and pairs 0 to 7 of either side
+abbrev pub place : ℕ → Result ℕ Fault
+place n = cond (nat_le n 15) (Ok n) (Err NoPlace)
+
+abbrev pub party : ℕ → Result ℕ Fault
+party n = cond (nat_le n 7) (Ok n) (Err NoParty)
+
 -- kind 32: score c on deal a, of North-South pair b against East-West pair d
-abbrev pub asked_score : Operation → Ask
+abbrev pub asked_score : Operation → Result Ask Fault
 asked_score o =
     cond (nat_le o.a 15)
     (cond (nat_le o.b 7 && nat_le o.d 7)
-    (cond (fair o.c) (Score o.a o.b o.d o.c) (Refuse BadResult))
-    (Refuse NoParty))
-    (Refuse NoPlace)
+    (cond (fair o.c) (Ok (Cell o.a (Score o.b (record { pair = o.d; score = o.c })))) (Err BadResult))
+    (Err NoParty))
+    (Err NoPlace)
 
 -- kind 33: the score on deal a of North-South pair b
-abbrev pub asked_line : Operation → Ask
-asked_line o = cond (nat_le o.a 15) (cond (nat_le o.b 7) (Read o.a o.b) (Refuse NoParty)) (Refuse NoPlace)
+abbrev pub asked_line : Operation → Result Ask Fault
+asked_line o = cond (nat_le o.a 15) (cond (nat_le o.b 7) (Ok (Cell o.a (Read o.b))) (Err NoParty)) (Err NoPlace)
 
-abbrev pub asked : Operation → Ask
+abbrev pub asked : Operation → Result Ask Fault
 asked o =
     cond (o.kind == 32) (asked_score o)
     (cond (o.kind == 33) (asked_line o)
-    (cond (o.kind == 34) (Close o.a)
-    (cond (o.kind == 35) (cond (nat_le o.a 15) (Total o.a) (Refuse NoParty))
-    (Refuse UnknownKind))))
+    (cond (o.kind == 34) (Ok (Close o.a))
+    (cond (o.kind == 35) (cond (nat_le o.a 15) (Ok (Total o.a)) (Err NoParty))
+    (Err UnknownKind))))
 
 -- each deal has its own key, key 32 is the totals', and closing takes them all
 abbrev pub keys : Operation → ℕ
@@ -36,11 +68,3 @@ keys o =
     cond (o.kind == 32 || o.kind == 33) (cond (nat_le o.a 15) (2 ^ o.a) 0)
     (cond (o.kind == 34) (2 ^ 32 + 65535)
     (cond (o.kind == 35) (2 ^ 32) 0))
-
--- what is asked for is there
-abbrev pub Within : Ask → Type 0
-Within (Score a b d c) = (a < 16) × (b < 8) × (d < 8)
-Within (Read a b) = (a < 16) × (b < 8)
-Within (Close round) = Unit {0}
-Within (Total i) = i < 16
-Within (Refuse fault) = Unit {0}

@@ -1,19 +1,22 @@
 -- The lines of a deal, and its match points.
-use Rattle.std.specs.Prelude.{ℕ, ◌-◌, Bool, true, false, cond, not, ◌&&◌, ℤ, ◌==◌, int_lt, nat_lt, slice_index_or}
+use Rattle.std.specs.Prelude.{ℕ, ◌-◌, Bool, true, false, cond, not, ◌&&◌, ℤ, Some, None, Option, ◌==◌, int_lt, nat_lt, slice_index_or}
 use Rattle.book.specs.Below.{sum_below, some_below}
 use Rattle.bridge.specs.declared.sheet.Deal.{Deal}
-use Rattle.bridge.specs.declared.sheet.Line.{Line}
-use Rattle.bridge.specs.declared.sheet.Line.TheVariants.{Empty, Scored}
+use Rattle.bridge.specs.declared.sheet.Entry.{Entry}
 use Rattle.bridge.specs.declared.sheet.Side.{Side}
 use Rattle.bridge.specs.declared.sheet.Side.TheVariants.{NorthSouth, EastWest}
 
+-- a line may be empty
+abbrev pub Line : Type 0
+Line = Option Entry
+
 -- the line of North-South pair b
 abbrev pub line : Deal → ℕ → Line
-line d b = slice_index_or d.lines b Empty
+line d b = slice_index_or d.lines b None
 
 abbrev pub filled : Line → Bool
-filled Empty = false
-filled (Scored x) = true
+filled None = false
+filled (Some x) = true
 
 abbrev pub filled_at : Deal → ℕ → ℕ
 filled_at d b = cond (filled (line d b)) 1 0
@@ -24,8 +27,8 @@ count d = sum_below 8 (filled_at d)
 
 -- East-West pair e plays on this line
 abbrev pub has_pair : ℕ → Line → Bool
-has_pair e Empty = false
-has_pair e (Scored x) = x.pair == e
+has_pair e None = false
+has_pair e (Some x) = x.pair == e
 
 -- East-West pair e plays on another line than that of pair b
 abbrev pub elsewhere_at : Deal → ℕ → ℕ → ℕ → Bool
@@ -41,9 +44,9 @@ won EastWest mine theirs = cond (int_lt mine theirs) 2 (cond (int_lt theirs mine
 
 -- what a side gets on a line from another line
 abbrev pub against : Side → Line → Line → ℕ
-against side Empty other = 0
-against side (Scored mine) Empty = 0
-against side (Scored mine) (Scored theirs) = won side mine.score theirs.score
+against side None other = 0
+against side (Some mine) None = 0
+against side (Some mine) (Some theirs) = won side mine.score theirs.score
 
 -- from line i, which is another line
 abbrev pub points_from : Side → Deal → ℕ → ℕ → ℕ

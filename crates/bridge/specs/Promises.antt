@@ -1,9 +1,8 @@
 -- What bridge promises of match points: on every line the two sides share 2 for each other line of the deal.
 use Rattle.std.specs.Prelude.{◌≡◌, ℕ, ◌+◌, ◌*◌, ◌<◌, true, ◌≢◌}
+use Rattle.bridge.specs.Page.{Sheet, after}
 use Rattle.bridge.specs.Points.{line, filled, count, points}
-use Rattle.bridge.specs.Rules.{after}
 use Rattle.bridge.specs.declared.sheet.Deal.{Deal}
-use Rattle.bridge.specs.declared.sheet.Sheet.{Sheet}
 use Rattle.bridge.specs.declared.sheet.Side.TheVariants.{NorthSouth, EastWest}
 use Rattle.records.specs.declared.Operation.{Operation}
 

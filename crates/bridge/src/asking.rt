@@ -1,18 +1,43 @@
 // What an operation asks of the book of bridge, as far as its own numbers tell.
 ghost use Rattle.std.specs.Prelude.{◌≡◌};
-ghost use Rattle.bridge.specs.Asking.{fair, asked_score, asked_line, asked, Within, keys as keys_needed};
+ghost use Rattle.bridge.specs.Asking.{fair, place, party, asked_score, asked_line, asked, keys as keys_needed, kind_number, ReadsKind};
 
-use super::sheet::{DEALS, PAIRS, TOTALS};
-use records::Operation;
+use super::sheet::{DEALS, Entry, PAIRS, TOTALS};
+use records::{Below, Operation};
 use rounds::Fault;
 
-pub const SCORE: u8 = 32;
+// The kinds of operations by their numbers.
+#[derive(Clone, Copy, Debug, PartialEq, Eq, Hash)]
+pub enum Kind {
+    Score = 32,
+    Read = 33,
+    Close = 34,
+    Total = 35,
+}
 
-pub const READ: u8 = 33;
+impl TryFrom<u8> for Kind {
+    type Error = Fault;
 
-pub const CLOSE: u8 = 34;
+    ghost try_from_gives = { ReadsKind };
 
-pub const TOTAL: u8 = 35;
+    fn try_from(number: u8) -> Result<Kind, Fault> {
+        match number {
+            32 => Ok(Kind::Score),
+            33 => Ok(Kind::Read),
+            34 => Ok(Kind::Close),
+            35 => Ok(Kind::Total),
+            _ => Err(Fault::UnknownKind),
+        }
+    }
+}
+
+impl From<Kind> for u8 {
+    fn from(kind: Kind) -> u8
+        ensures { result ≡ kind_number kind }
+    {
+        kind as u8
+    }
+}
 
 // The largest score of a deal, for either side.
 const LARGEST: u32 = 7600;
@@ -20,19 +45,17 @@ const LARGEST: u32 = 7600;
 // Scores are multiples of this.
 const STEP: u32 = 10;
 
-#[derive(Clone, Copy)]
-pub enum Ask {
-    // deal, North-South pair, East-West pair, score
-    Score(u8, u8, u8, i32),
-    // deal, North-South pair
-    Read(u8, u8),
-    // round
-    Close(u16),
-    // total
-    Total(u8),
-    // what no page would let the book do
-    Refuse(Fault),
+// What is asked of a deal.
+#[derive(Clone, Copy, Debug, PartialEq, Eq, Hash)]
+pub enum DealAsk {
+    // North-South pair, and its line
+    Score(Below<PAIRS>, Entry),
+    // North-South pair
+    Read(Below<PAIRS>),
 }
+
+// What is asked of a sheet.
+pub type Ask = rounds::Ask<DealAsk, DEALS, TOTALS>;
 
 fn is_fair(score: i32) -> bool
     ensures { result ≡ fair score }
@@ -41,51 +64,50 @@ fn is_fair(score: i32) -> bool
     size <= LARGEST && size % STEP == 0
 }
 
-fn ask_score(op: Operation) -> Ask
-    ensures value { result ≡ asked_score op }
-    ensures within { Within result }
+fn place_of(number: u16) -> Result<Below<DEALS>, Fault>
+    ensures { result ≡ place number }
 {
-    if usize::from(op.a) >= DEALS {
-        return Ask::Refuse(Fault::NoPlace);
-    }
-    if usize::from(op.b) >= PAIRS || usize::from(op.d) >= PAIRS {
-        return Ask::Refuse(Fault::NoParty);
-    }
+    Below::new(usize::from(number)).ok_or(Fault::NoPlace)
+}
+
+fn party_of(number: u16) -> Result<Below<PAIRS>, Fault>
+    ensures { result ≡ party number }
+{
+    Below::new(usize::from(number)).ok_or(Fault::NoParty)
+}
+
+fn ask_score(op: Operation) -> Result<Ask, Fault>
+    ensures { result ≡ asked_score op }
+{
+    let deal = place_of(op.a)?;
+    let north_south = party_of(op.b)?;
+    let pair = party_of(op.d)?;
     if !is_fair(op.c) {
-        return Ask::Refuse(Fault::BadResult);
+        return Err(Fault::BadResult);
     }
-    Ask::Score(op.a as u8, op.b as u8, op.d as u8, op.c)
+    Ok(Ask::Cell(
+        deal,
+        DealAsk::Score(north_south, Entry { pair, score: op.c }),
+    ))
 }
 
-fn ask_line(op: Operation) -> Ask
-    ensures value { result ≡ asked_line op }
-    ensures within { Within result }
+fn ask_line(op: Operation) -> Result<Ask, Fault>
+    ensures { result ≡ asked_line op }
 {
-    if usize::from(op.a) >= DEALS {
-        return Ask::Refuse(Fault::NoPlace);
-    }
-    if usize::from(op.b) >= PAIRS {
-        return Ask::Refuse(Fault::NoParty);
-    }
-    Ask::Read(op.a as u8, op.b as u8)
+    let deal = place_of(op.a)?;
+    let north_south = party_of(op.b)?;
+    Ok(Ask::Cell(deal, DealAsk::Read(north_south)))
 }
 
-pub(crate) fn ask_of(op: Operation) -> Ask
-    ensures value { result ≡ asked op }
-    ensures within { Within result }
+// What an operation asks, or the fault that it gets on every page.
+pub(crate) fn ask_of(op: Operation) -> Result<Ask, Fault>
+    ensures { result ≡ asked op }
 {
-    match op.kind {
-        SCORE => ask_score(op),
-        READ => ask_line(op),
-        CLOSE => Ask::Close(op.a),
-        TOTAL => {
-            if usize::from(op.a) >= TOTALS {
-                Ask::Refuse(Fault::NoParty)
-            } else {
-                Ask::Total(op.a as u8)
-            }
-        }
-        _ => Ask::Refuse(Fault::UnknownKind),
+    match Kind::try_from(op.kind)? {
+        Kind::Score => ask_score(op),
+        Kind::Read => ask_line(op),
+        Kind::Close => Ok(Ask::Close(op.a)),
+        Kind::Total => Ok(Ask::Total(Below::new(usize::from(op.a)).ok_or(Fault::NoParty)?)),
     }
 }
 
@@ -93,16 +115,15 @@ pub(crate) fn ask_of(op: Operation) -> Ask
 pub(crate) fn keys(op: Operation) -> u64
     ensures { result ≡ keys_needed op }
 {
-    match op.kind {
-        SCORE | READ => {
-            if usize::from(op.a) >= DEALS {
-                0
-            } else {
-                1 << op.a
-            }
-        }
-        CLOSE => 0x1_0000_ffff,
-        TOTAL => 1 << 32,
-        _ => 0,
+    let Ok(kind) = Kind::try_from(op.kind) else {
+        return 0;
+    };
+    match kind {
+        Kind::Score | Kind::Read => match place_of(op.a) {
+            Ok(deal) => 1 << deal.get(),
+            Err(_) => 0,
+        },
+        Kind::Close => 0x1_0000_ffff,
+        Kind::Total => 1 << 32,
     }
 }

@@ -2,17 +2,11 @@
 #![tactic(auto)]
 
 mod asking;
-mod closing;
-mod halls;
-mod kinds;
 mod points;
 mod promises;
 mod rules;
 mod sheet;
-mod state;
 
-pub use asking::{CLOSE, READ, SCORE, TOTAL};
-pub use kinds::Kind;
+pub use asking::Kind;
 pub use promises::sides_share_points;
-pub use rules::LAYER;
-pub use state::Bridge;
+pub use rules::{Bridge, LAYER};

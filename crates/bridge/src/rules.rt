@@ -1,99 +1,91 @@
-// What each operation answers and makes of the sheet of a hall.
-ghost use Rattle.std.specs.Prelude.{◌≡◌, ◌<◌, true, is_ok};
-ghost use Rattle.bridge.specs.Asking.{Within};
-ghost use Rattle.bridge.specs.Rules.{score_says, read_says, says, changed, answer, after};
-ghost use Rattle.rounds.specs.Rounds.{Small};
+// What each operation answers and makes of a deal: the book of bridge as a game of rounds.
+ghost use Rattle.std.proofs.Common.{rules};
+ghost use Rattle.std.specs.Prelude.{◌≡◌};
+ghost use Rattle.bridge.specs.Deals.{bridge_fits};
+ghost use Rattle.bridge.specs.Page.{bridge_game};
+ghost use Rattle.bridge.specs.Rules.{score_says, read_says};
 
-use super::asking::{Ask, ask_of};
-use super::sheet::{Deal, Entry, Line, Sheet};
-use records::{Answer, Operation};
-use rounds::{Fault, answer_with};
+use super::asking::{DealAsk, ask_of, keys};
+use super::sheet::{DEALS, Deal, Entry, PAIRS, TOTALS};
+use book::Halls;
+use records::Operation;
+use rounds::{Ask, Cell, Fault, Kept};
 
 // The layer of this book's answers.
 pub const LAYER: u8 = 2;
 
-impl Line {
-    fn say_to_read(self) -> Result<i32, Fault>
-        ensures { result ≡ read_says self }
-    {
-        match self {
-            Line::Empty => Err(Fault::Nothing),
-            Line::Scored(entry) => Ok(entry.score),
-        }
-    }
+// The book of bridge: a sheet of deals for each of eight halls.
+pub type Bridge = Halls<Kept<Deal, DEALS, TOTALS>>;
+
+fn say_to_read(line: Option<Entry>) -> Result<i32, Fault>
+    ensures { result ≡ read_says line }
+{
+    line.map(|entry| entry.score).ok_or(Fault::Nothing)
 }
 
 impl Deal {
-    fn say_to_score(&self, b: u8, pair: u8) -> Result<i32, Fault>
-        requires { b < 8 }
+    fn say_to_score(&self, b: usize, pair: usize) -> Result<i32, Fault>
         ensures { result ≡ score_says self.now b pair }
     {
-        if self.has_elsewhere(usize::from(b), usize::from(pair)) {
+        if self.has_elsewhere(b, pair) {
             return Err(Fault::Elsewhere);
         }
-        Ok(if self.lines[b as usize].is_filled() {
-            1
-        } else {
-            0
-        })
+        Ok(i32::from(self.line(b).is_some()))
     }
 }
 
-impl Sheet {
-    // The value of what would be well done, or why it is not done.
-    fn say(&self, ask: Ask) -> Result<i32, Fault>
-        requires within { Within ask }
-        requires small { Small self.now.round self.now.totals }
-        ensures { result ≡ says self.now ask }
-    {
+impl Cell<DEALS, TOTALS> for Deal {
+    type Ask = DealAsk;
+
+    ghost game = { bridge_game };
+
+    const LAYER: u8 = LAYER;
+
+    ghost LAYER = { 2 };
+
+    ghost fits = { bridge_fits };
+
+    ghost roomy = { Prim.search rules };
+
+    fn empty() -> Deal {
+        Deal {
+            lines: [None; PAIRS],
+        }
+    }
+
+    fn asked(op: Operation) -> Result<Ask<DealAsk, DEALS, TOTALS>, Fault> {
+        ask_of(op)
+    }
+
+    fn keys(op: Operation) -> u64 {
+        keys(op)
+    }
+
+    fn say(&self, _current: u16, ask: DealAsk) -> Result<i32, Fault> {
         match ask {
-            Ask::Score(a, b, pair, _) => self.deals[a as usize].say_to_score(b, pair),
-            Ask::Read(a, b) => self.deals[a as usize].lines[b as usize].say_to_read(),
-            Ask::Close(round) => {
-                if self.is_closable(round) {
-                    Ok(i32::from(round) + 1)
-                } else {
-                    Err(Fault::NotClosable)
-                }
-            }
-            Ask::Total(i) => Ok(self.totals[i as usize] as i32),
-            Ask::Refuse(fault) => Err(fault),
+            DealAsk::Score(b, entry) => self.say_to_score(b.get(), entry.pair.get()),
+            DealAsk::Read(b) => say_to_read(self.line(b.get())),
         }
     }
 
-    // Makes the change of what is well done.
-    fn change(&mut self, ask: Ask)
-        requires within { Within ask }
-        requires small { Small self.old.round self.old.totals }
-        requires done { is_ok (says self.old ask) ≡ true }
-        ensures { self.new ≡ changed self.old ask }
-    {
+    fn change(&mut self, ask: DealAsk) {
         match ask {
-            Ask::Score(a, b, pair, score) => {
-                self.deals[a as usize].lines[b as usize] = Line::Scored(Entry { pair, score });
-            }
-            Ask::Close(_) => self.close(),
-            Ask::Read(_, _) | Ask::Total(_) | Ask::Refuse(_) => {}
+            DealAsk::Score(b, entry) => self.lines[b.get()] = Some(entry),
+            DealAsk::Read(_) => {}
         }
     }
 
-    pub(crate) fn verdict(&self, op: Operation) -> Answer
-        requires { Small self.now.round self.now.totals }
-        ensures { result ≡ answer self.now op }
-    {
-        answer_with(LAYER, self.say(ask_of(op)), op.a)
+    // Whether some line is scored.
+    fn is_used(&self) -> bool {
+        self.count() != 0
     }
 
-    pub(crate) fn run(&mut self, op: Operation) -> Answer
-        requires { Small self.old.round self.old.totals }
-        ensures answer { result ≡ answer self.old op }
-        ensures after { self.new ≡ after self.old op }
-    {
-        let ask = ask_of(op);
-        let said = self.say(ask);
-        if said.is_ok() {
-            self.change(ask);
-        }
-        answer_with(LAYER, said, op.a)
+    // One line alone has nothing to be compared with.
+    fn is_settled(&self) -> bool {
+        self.count() != 1
+    }
+
+    fn gain(&self, total: usize) -> u32 {
+        self.points_for(total)
     }
 }

@@ -1,15 +1,13 @@
-use Rattle.std.proofs.Common.{◌≡◌, true, sym, arith, rules}
-use Rattle.book.proofs.Below.{some_none, some_more, some_at}
+use Rattle.std.proofs.Common.{rules, tests, ◌≡◌, ◌∙◌}
+use Rattle.bridge.proofs.Lines.{Elsewhere, elsewhere_lines}
 use Rattle.bridge.proofs.sheet.Deal.has_elsewhere.Goals as goal
-use Rattle.bridge.specs.Points.{elsewhere_at}
+use Rattle.std.specs.List.{list_any, enumerate_from}
+use Rattle.std.proofs.lemmas.Iterator.{YieldsList-from_slice}
+use Rattle.std.proofs.lemmas.Iterator.Consumers.{YieldsList-from_enumerate}
+use Rattle.std.proofs.lemmas.Iterator.Search.{any_from_yields_List}
 
-pub loop-i-init : goal.loop-i-init
-loop-i-init c = some_none (elsewhere_at c.args.self.now c.args.b c.args.pair)
-
-pub returns-then-plays_on_other : goal.returns-then-plays_on_other
-returns-then-plays_on_other c =
-    let here : elsewhere_at c.args.self.now c.args.b c.args.pair c.loop-i.i ≡ true = search rules in
-    sym (some_at (elsewhere_at c.args.self.now c.args.b c.args.pair) 8 c.loop-i.i (omega arith) here)
-
-pub loop-i-preserved : goal.loop-i-preserved
-loop-i-preserved c = let more = some_more (elsewhere_at c.args.self.now c.args.b c.args.pair) c.loop-i.i in search rules
+pub returns : goal.returns
+returns c =
+    let found : c.any.result ≡ list_any (Elsewhere c.args.b c.args.pair) (enumerate_from 0 c.args.self.now.lines) =
+    any_from_yields_List _ _ _ _ c.any.ensures.ran (YieldsList-from_enumerate (YieldsList-from_slice c.args.self.now.lines cc) cc) (λ x b q k. search (rules, tests)) in
+    found ∙ elsewhere_lines c.args.self.now c.args.b c.args.pair (search rules)

@@ -1,7 +1,0 @@
-use Rattle.std.proofs.Common.{refl}
-use Rattle.bridge.proofs.halls.no_points.Goals as goal
-use Rattle.bridge.specs.Page.{no_points}
-
-pub returns : goal.returns
-unfolding no_points
-returns c = refl
