@@ -1,9 +1,10 @@
 // A book made of eight pages, one for each hall: what a book does at one hall makes the book of them all.
 ghost use Rattle.std.specs.Prelude.{◌≡◌, ℕ};
-ghost use Rattle.book.specs.Model.{Page, Model, Lawful, no_hall};
+ghost use Rattle.book.specs.Model.{Page, Model, Lawful};
+ghost use Rattle.records.specs.Answers.{fault_at};
 ghost use Rattle.book.specs.Halls.{page_at, all_own};
 
-use super::{Book, NO_HALL};
+use super::{Book, HALLS, NO_HALL};
 use records::{Answer, Below, Operation};
 
 // A book's part at one hall: the three questions of a book, on one page.
@@ -48,7 +49,7 @@ pub trait Hall {
 // A book with a part for each hall.
 #[derive(Drop)]
 pub struct Halls<H> {
-    halls: [H; 8],
+    halls: [H; HALLS],
 }
 
 impl<H: Hall + Copy> Halls<H> {
@@ -57,16 +58,16 @@ impl<H: Hall + Copy> Halls<H> {
         ensures { (h : ℕ) → page_at H.page H.first result.halls h ≡ H.first }
     {
         Halls {
-            halls: [H::new(); 8],
+            halls: [H::new(); HALLS],
         }
     }
 }
 
-// The answer where there is no such hall.
-fn refuse_hall<H: Hall>(hall: u8) -> Answer
-    ensures { result ≡ no_hall H.model hall }
+// The answer of the book with this layer where there is no such hall.
+pub fn refuse_hall(layer: u8, hall: u8) -> Answer
+    ensures { result ≡ fault_at layer NO_HALL hall }
 {
-    Answer::fault(H::LAYER, NO_HALL, u16::from(hall))
+    Answer::fault(layer, NO_HALL, u16::from(hall))
 }
 
 impl<H: Hall> Book for Halls<H> {
@@ -83,15 +84,15 @@ impl<H: Hall> Book for Halls<H> {
     }
 
     fn verdict(&self, hall: u8, op: Operation) -> Answer {
-        match Below::<8>::new(usize::from(hall)) {
-            None => refuse_hall::<H>(hall),
+        match Below::<HALLS>::new(usize::from(hall)) {
+            None => refuse_hall(H::LAYER, hall),
             Some(place) => self.halls[place.get()].verdict(op),
         }
     }
 
     fn run(&mut self, hall: u8, op: Operation) -> Answer {
-        match Below::<8>::new(usize::from(hall)) {
-            None => refuse_hall::<H>(hall),
+        match Below::<HALLS>::new(usize::from(hall)) {
+            None => refuse_hall(H::LAYER, hall),
             Some(place) => self.halls[place.get()].run(op),
         }
     }

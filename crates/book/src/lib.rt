@@ -7,11 +7,11 @@ ghost use Rattle.book.specs.Model.{Page, Model, Lawful, told, turned};
 
 mod halls;
 
-pub use halls::{Hall, Halls};
+pub use halls::{Hall, Halls, refuse_hall};
 use records::{Answer, Operation};
 
 // Halls are numbered from 0.
-pub const HALLS: u8 = 8;
+pub const HALLS: usize = 8;
 
 // The cause of the fault that a hall above 7 gets.
 pub const NO_HALL: u8 = 255;
@@ -48,6 +48,7 @@ fn share_no_key(x: u64, y: u64) -> bool
 }
 
 // Whether two operations may pass each other: they then reach the same page in either order, with the same answers.
+#[tactic(auto, using(crate::proofs::Apart::apart_pass))]
 pub fn may_pass<B: Book>(o: Operation, q: Operation) -> bool
     ensures value { result ≡ apart B.model o q }
     ensures passes { result ≡ true → (p : Page) → B.model.own p → Pass B.model p o q }

@@ -1,5 +1,5 @@
 -- The promises of the roll on its entries.
-use Rattle.std.proofs.Common.{◌≡◌, ℕ, true, cond, length, set, pos, sym, refl, ap, ◌∙◌, inl, inr, arith, get_or-set_other, get_or-set_same}
+use Rattle.std.proofs.Common.{◌≡◌, ℕ, true, cond, length, set, pos, Ok, Err, Result, sym, refl, ap, ◌∙◌, inl, inr, arith, get_or-set_other, get_or-set_same}
 use Rattle.book.specs.Model.{Model, Lawful}
 use Rattle.book.specs.Numbers.{at}
 use Rattle.records.specs.Answers.{well_done}
@@ -7,35 +7,37 @@ use Rattle.records.specs.declared.Operation.{Operation}
 use Rattle.roll.specs.Admitted.{write_at, write_chief, write_kind, removal_writes, removal_reads, removal_below, empty_stands}
 use Rattle.roll.specs.Laws.{kept_read, kept_after, read_after, cause_not_0}
 use Rattle.roll.specs.Pages.{at_entry}
-use Rattle.roll.specs.Asking.{cause, asked}
+use Rattle.roll.specs.Asking.{refuse, asked}
+use Rattle.roll.specs.Refusals.{cause}
+use Rattle.roll.specs.declared.refusals.Refused.{Refused}
 use Rattle.roll.specs.Promises.{RemovalEmpties, EntriesStay}
 use Rattle.roll.specs.Roll.{Sheet, write, read, entry, admitted, says, changed, answer, after}
 use Rattle.roll.specs.declared.asking.Ask.{Ask}
-use Rattle.roll.specs.declared.asking.Ask.TheVariants.{Below, Write, Read, Refuse}
-use Rattle.roll.specs.declared.asking.Refusal.TheVariants.{NotStanding}
+use Rattle.roll.specs.declared.asking.Ask.TheVariants.{Below, Write, Read}
+use Rattle.roll.specs.declared.refusals.Refusal.TheVariants.{NotStanding}
 use Rattle.std.proofs.lemmas.Bool.{cases_eq, eqb-true}
 
 module _ (m : Model) (s : Sheet) (o : Operation) where
   -- a removal that is well done empties its entry
-  emptied : (x : Ask) → length s.tokens ≡ 16 → o.kind ≡ 2 → admitted s.tokens o ≡ x → well_done (says m s o x) ≡ true
+  emptied : (x : Result Ask Refused) → length s.tokens ≡ 16 → o.kind ≡ 2 → admitted s.tokens o ≡ x → well_done (says m s o x) ≡ true
       → entry (changed m s o x).tokens o.a ≡ 0
-  emptied Below n k e d = absurd (removal_below s.tokens o k e)
-  emptied (Write a v) n k e d =
+  emptied (Ok Below) n k e d = absurd (removal_below s.tokens o k e)
+  emptied (Ok (Write a v)) n k e d =
       let w = write_at s.tokens o a v e in
       ap (entry (set s.tokens a v)) (sym w.is) ∙ get_or-set_same s.tokens a v 0 (omega (arith, w.there)) ∙ removal_writes s.tokens o a v k e
-  emptied (Read a) n k e d = absurd (removal_reads s.tokens o a k e)
-  emptied (Refuse why place) n k e d = absurd (cause_not_0 why (eqb-true (cause why) 0 d))
+  emptied (Ok (Read a)) n k e d = absurd (removal_reads s.tokens o a k e)
+  emptied (Err r) n k e d = absurd (cause_not_0 r.why (eqb-true (cause r.why) 0 d))
 
   -- an entry that does not stay is written
-  written : (x : Ask) (g : ℕ) → (entry (changed m s o x).tokens g ≡ entry s.tokens g → ⊥) → (v : ℕ) × (x ≡ Write g v)
-  written Below g new = absurd (new refl)
-  written (Write a v) g new =
+  written : (x : Result Ask Refused) (g : ℕ) → (entry (changed m s o x).tokens g ≡ entry s.tokens g → ⊥) → (v : ℕ) × (x ≡ Ok (Write g v))
+  written (Ok Below) g new = absurd (new refl)
+  written (Ok (Write a v)) g new =
       elim (cases_eq g a) [
-        | inl same ↦ (v, ap (λ k. Write k v) (sym same))
+        | inl same ↦ (v, ap (λ k. Ok (Write k v)) (sym same))
         | inr other ↦ absurd (new (get_or-set_other s.tokens a g v 0 other))
       ]
-  written (Read a) g new = absurd (new refl)
-  written (Refuse why place) g new = absurd (new refl)
+  written (Ok (Read a)) g new = absurd (new refl)
+  written (Err r) g new = absurd (new refl)
 
 module _ (m : Model) (lawful : Lawful m) where
   pub removal_empties_lem : RemovalEmpties m
@@ -45,7 +47,7 @@ module _ (m : Model) (lawful : Lawful m) where
       let t = after m s o in
       let none : entry t.tokens q.grant ≡ 0 = ap (entry t.tokens) e ∙ emptied m s o x (kept_read m lawful p own).sixteen k refl d in
       ap (λ u. answer m u q) (read_after m lawful p o own)
-      ∙ ap (λ b. says m t q (cond b (asked q) (Refuse NotStanding q.grant))) (empty_stands t.tokens q none)
+      ∙ ap (λ b. says m t q (cond b (asked q) (refuse NotStanding q.grant))) (empty_stands t.tokens q none)
 
   pub entries_stay_lem : EntriesStay m
   entries_stay_lem p o g own l new =

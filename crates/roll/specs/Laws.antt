@@ -1,5 +1,5 @@
 -- A roll over a book that obeys the law of books obeys it too.
-use Rattle.std.specs.Prelude.{◌≡◌, ℕ, ◌+◌, ◌≤◌, false, cond, not, ◌&&◌, List, length, ◌==◌, ◌≢◌, nat_le, refl}
+use Rattle.std.specs.Prelude.{◌≡◌, ℕ, ◌+◌, ◌≤◌, false, cond, not, ◌&&◌, List, length, Ok, Err, Result, ◌==◌, ◌≢◌, nat_le, refl}
 use Rattle.std.proofs.lemmas.Nat.{and_comm}
 use Rattle.std.proofs.Common.{length-set, get_or-set_other, inl, inr, sym, ap, subst, ◌∙◌, arith}
 use Rattle.std.proofs.lemmas.List.{set_comm}
@@ -11,12 +11,14 @@ use Rattle.records.specs.Answers.{Shaped, done_with, well_done}
 use Rattle.records.specs.declared.Operation.{Operation}
 use Rattle.roll.specs.Keys.{held_grant, held_write, held_read, disjoint_below}
 use Rattle.roll.specs.Pages.{read_write}
-use Rattle.roll.specs.Asking.{cause, asked}
+use Rattle.roll.specs.Asking.{refuse, asked}
+use Rattle.roll.specs.Refusals.{cause}
+use Rattle.roll.specs.declared.refusals.Refused.{Refused}
 use Rattle.roll.specs.Roll.{Sheet, write, read, entry, stands, admitted, filled, says, changed, answer, after, roll_keys, roll_model}
 use Rattle.roll.specs.declared.asking.Ask.{Ask}
-use Rattle.roll.specs.declared.asking.Ask.TheVariants.{Below, Write, Read, Refuse}
-use Rattle.roll.specs.declared.asking.Refusal.{Refusal}
-use Rattle.roll.specs.declared.asking.Refusal.TheVariants.{NotStanding, NotChief, NoEntry, NoToken}
+use Rattle.roll.specs.declared.asking.Ask.TheVariants.{Below, Write, Read}
+use Rattle.roll.specs.declared.refusals.Refusal.{Refusal}
+use Rattle.roll.specs.declared.refusals.Refusal.TheVariants.{NotStanding, NotChief, NoEntry, NoToken}
 use Rattle.std.proofs.lemmas.Bool.{cases_lt, and_left, lt-leb, true≢false}
 
 -- 16 tokens over a page of the book below's own
@@ -36,35 +38,35 @@ no_grant tokens o h = and_left (nat_le o.grant 15) _ (lt-leb o.grant 15 (omega a
 module _ (m : Model) (lawful : Lawful m) where
   -- One operation.
   module _ (s : Sheet) (o : Operation) (kept : Kept m s) where
-    kept_changed : (x : Ask) → Kept m (changed m s o x)
-    kept_changed Below = record { sixteen = kept.sixteen; own = lawful.keeps s.below o kept.own }
-    kept_changed (Write a token) = record { sixteen = simp length-set kept.sixteen; own = kept.own }
-    kept_changed (Read a) = kept
-    kept_changed (Refuse why place) = kept
+    kept_changed : (x : Result Ask Refused) → Kept m (changed m s o x)
+    kept_changed (Ok Below) = record { sixteen = kept.sixteen; own = lawful.keeps s.below o kept.own }
+    kept_changed (Ok (Write a token)) = record { sixteen = simp length-set kept.sixteen; own = kept.own }
+    kept_changed (Ok (Read a)) = kept
+    kept_changed (Err r) = kept
 
     pub kept_after : Kept m (after m s o)
     kept_after = kept_changed (admitted s.tokens o)
 
-    says_shaped : (x : Ask) → Shaped (says m s o x)
-    says_shaped Below = lawful.shaped s.below o kept.own
-    says_shaped (Write a token) = record { done = λ _. refl; fault = λ no. absurd (no refl) }
-    says_shaped (Read a) = record { done = λ _. refl; fault = λ no. absurd (no refl) }
-    says_shaped (Refuse why place) = record { done = λ e. absurd (cause_not_0 why e); fault = λ _. refl }
+    says_shaped : (x : Result Ask Refused) → Shaped (says m s o x)
+    says_shaped (Ok Below) = lawful.shaped s.below o kept.own
+    says_shaped (Ok (Write a token)) = record { done = λ _. refl; fault = λ no. absurd (no refl) }
+    says_shaped (Ok (Read a)) = record { done = λ _. refl; fault = λ no. absurd (no refl) }
+    says_shaped (Err r) = record { done = λ e. absurd (cause_not_0 r.why e); fault = λ _. refl }
 
-    fault_changes : (x : Ask) → well_done (says m s o x) ≡ false → changed m s o x ≡ s
-    fault_changes Below f = ap (λ u. record { tokens = s.tokens; below = u }) (lawful.fault_leaves s.below o kept.own f)
-    fault_changes (Write a token) f = absurd (true≢false f)
-    fault_changes (Read a) f = refl
-    fault_changes (Refuse why place) f = refl
+    fault_changes : (x : Result Ask Refused) → well_done (says m s o x) ≡ false → changed m s o x ≡ s
+    fault_changes (Ok Below) f = ap (λ u. record { tokens = s.tokens; below = u }) (lawful.fault_leaves s.below o kept.own f)
+    fault_changes (Ok (Write a token)) f = absurd (true≢false f)
+    fault_changes (Ok (Read a)) f = refl
+    fault_changes (Err r) f = refl
 
   -- an operation leaves each entry whose key it lacks
-  leaves : (s : Sheet) (o : Operation) (x : Ask) (g : ℕ) → admitted s.tokens o ≡ x → (Held (roll_keys m o) (48 + g) → ⊥)
+  leaves : (s : Sheet) (o : Operation) (x : Result Ask Refused) (g : ℕ) → admitted s.tokens o ≡ x → (Held (roll_keys m o) (48 + g) → ⊥)
       → entry (changed m s o x).tokens g ≡ entry s.tokens g
-  leaves s o Below g e lacks = refl
-  leaves s o (Write a token) g e lacks =
+  leaves s o (Ok Below) g e lacks = refl
+  leaves s o (Ok (Write a token)) g e lacks =
       get_or-set_other s.tokens a g token 0 (λ same. lacks (subst (λ k. Held (roll_keys m o) (48 + k)) (sym same) (held_write m s.tokens o a token e)))
-  leaves s o (Read a) g e lacks = refl
-  leaves s o (Refuse why place) g e lacks = refl
+  leaves s o (Ok (Read a)) g e lacks = refl
+  leaves s o (Err r) g e lacks = refl
 
   -- Two operations with no key in common, done at one sheet.
   module _ (s : Sheet) (o q : Operation) (none : Disjoint (roll_model m) o q) where
@@ -82,37 +84,37 @@ module _ (m : Model) (lawful : Lawful m) where
         ]
 
     pub admitted_same : admitted (after m s q).tokens o ≡ admitted s.tokens o
-    admitted_same = ap (λ t. cond t (asked o) (Refuse NotStanding o.grant)) stands_same
+    admitted_same = ap (λ t. cond t (asked o) (refuse NotStanding o.grant)) stands_same
 
     module _ (kept : Kept m s) where
-      says_same : (x y : Ask) → admitted s.tokens o ≡ x → admitted s.tokens q ≡ y → says m (changed m s q y) o x ≡ says m s o x
-      says_same Below Below e f = lawful.same_answer s.below o q kept.own (disjoint_below m s.tokens o q e f none)
-      says_same Below (Write b w) e f = refl
-      says_same Below (Read b) e f = refl
-      says_same Below (Refuse why place) e f = refl
-      says_same (Write a v) y e f = ap (λ token. done_with 3 (filled token)) (leaves s q y a f (lacks a (held_write m s.tokens o a v e)))
-      says_same (Read a) y e f = ap (λ token. done_with 3 (filled token)) (leaves s q y a f (lacks a (held_read m s.tokens o a e)))
-      says_same (Refuse why place) y e f = refl
+      says_same : (x y : Result Ask Refused) → admitted s.tokens o ≡ x → admitted s.tokens q ≡ y → says m (changed m s q y) o x ≡ says m s o x
+      says_same (Ok Below) (Ok Below) e f = lawful.same_answer s.below o q kept.own (disjoint_below m s.tokens o q e f none)
+      says_same (Ok Below) (Ok (Write b w)) e f = refl
+      says_same (Ok Below) (Ok (Read b)) e f = refl
+      says_same (Ok Below) (Err r) e f = refl
+      says_same (Ok (Write a v)) y e f = ap (λ token. done_with 3 (filled token)) (leaves s q y a f (lacks a (held_write m s.tokens o a v e)))
+      says_same (Ok (Read a)) y e f = ap (λ token. done_with 3 (filled token)) (leaves s q y a f (lacks a (held_read m s.tokens o a e)))
+      says_same (Err r) y e f = refl
 
       pub answer_same : answer m (after m s q) o ≡ answer m s o
       answer_same = ap (says m (after m s q) o) admitted_same ∙ says_same (admitted s.tokens o) (admitted s.tokens q) refl refl
 
-      changed_same : (x y : Ask) → admitted s.tokens o ≡ x → admitted s.tokens q ≡ y
+      changed_same : (x y : Result Ask Refused) → admitted s.tokens o ≡ x → admitted s.tokens q ≡ y
           → changed m (changed m s o x) q y ≡ changed m (changed m s q y) o x
-      changed_same Below Below e f =
+      changed_same (Ok Below) (Ok Below) e f =
           ap (λ u. record { tokens = s.tokens; below = u }) (lawful.same_page s.below o q kept.own (disjoint_below m s.tokens o q e f none))
-      changed_same Below (Write b w) e f = refl
-      changed_same Below (Read b) e f = refl
-      changed_same Below (Refuse why place) e f = refl
-      changed_same (Write a v) Below e f = refl
-      changed_same (Write a v) (Write b w) e f =
+      changed_same (Ok Below) (Ok (Write b w)) e f = refl
+      changed_same (Ok Below) (Ok (Read b)) e f = refl
+      changed_same (Ok Below) (Err r) e f = refl
+      changed_same (Ok (Write a v)) (Ok Below) e f = refl
+      changed_same (Ok (Write a v)) (Ok (Write b w)) e f =
           ap (λ tokens. record { tokens = tokens; below = s.below })
           (set_comm s.tokens a b v w (λ same.
           lacks a (held_write m s.tokens o a v e) (subst (λ k. Held (roll_keys m q) (48 + k)) (sym same) (held_write m s.tokens q b w f))))
-      changed_same (Write a v) (Read b) e f = refl
-      changed_same (Write a v) (Refuse why place) e f = refl
-      changed_same (Read a) y e f = refl
-      changed_same (Refuse why place) y e f = refl
+      changed_same (Ok (Write a v)) (Ok (Read b)) e f = refl
+      changed_same (Ok (Write a v)) (Err r) e f = refl
+      changed_same (Ok (Read a)) y e f = refl
+      changed_same (Err r) y e f = refl
 
   pub after_same : (s : Sheet) (o q : Operation) → Disjoint (roll_model m) o q → Kept m s → after m (after m s o) q ≡ after m (after m s q) o
   after_same s o q none kept =

@@ -1,3 +1,5 @@
+pub mod Kinds
+pub mod Refusals
 pub mod Asking
 pub mod Roll
 pub mod Promises

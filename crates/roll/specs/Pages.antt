@@ -5,7 +5,6 @@ use Rattle.book.proofs.Below.{table_all}
 use Rattle.book.proofs.Parts.{told_sheet, turned_sheet}
 use Rattle.book.specs.Model.{Page, Model, told, turned}
 use Rattle.book.specs.Numbers.{natural, at}
-use Rattle.records.specs.declared.Answer.{Answer}
 use Rattle.records.specs.declared.Operation.{Operation}
 use Rattle.roll.specs.Table.{length_hall}
 use Rattle.roll.specs.Roll.{Sheet, write, read, entry, answer, after, roll_sheets, roll_model, sheet_of, page_of}
@@ -32,8 +31,8 @@ module _ {B : Type 0} (m : Model) (pages : B → ℕ → Page) (r : Roll B) (hal
   again : read (write (sheet_of pages r hall)) ≡ sheet_of pages r hall
   again = read_write (sheet_of pages r hall) (length_hall r.tokens.tokens hall)
 
-  pub told_roll : (says : Answer) → says ≡ answer m (sheet_of pages r hall) o → says ≡ told (roll_model m) (page_of pages r) hall o
-  told_roll says e = e ∙ told_sheet (roll_sheets m) (sheet_of pages r) hall o inside again
+  pub told_roll : answer m (sheet_of pages r hall) o ≡ told (roll_model m) (page_of pages r) hall o
+  told_roll = told_sheet (roll_sheets m) (sheet_of pages r) hall o inside again
 
   pub turned_roll : (new : Roll B) → sheet_of pages new hall ≡ after m (sheet_of pages r hall) o
       → ((h : ℕ) → (h ≢ hall) → sheet_of pages new h ≡ sheet_of pages r h) → page_of pages new ≡ turned (roll_model m) (page_of pages r) hall o

@@ -1,16 +1,18 @@
 -- The roll of deputies over a book: a page of the roll is 16 tokens, and then the page of the book below.
-use Rattle.std.specs.Prelude.{◌≡◌, ℕ, ◌+◌, ◌*◌, Bool, cond, not, ◌&&◌, List, ◌∷◌, ◌++◌, map, drop, replicate, ℤ, pos, ◌==◌, bit_or, nat_le, slice_index, slice_set}
+use Rattle.std.specs.Prelude.{◌≡◌, ℕ, ◌+◌, ◌*◌, Bool, cond, not, ◌&&◌, List, ◌∷◌, ◌++◌, map, drop, replicate, ℤ, pos, Ok, Err, Result, ◌==◌, bit_or, nat_le, slice_index, slice_set}
 use Rattle.book.specs.Below.{table}
 use Rattle.book.specs.Model.{Page, Model}
 use Rattle.book.specs.Numbers.{natural, at}
 use Rattle.book.specs.Sheets.{Sheets}
-use Rattle.records.specs.Answers.{done_with, fault_at}
+use Rattle.records.specs.Answers.{done_with}
 use Rattle.records.specs.declared.Answer.{Answer}
 use Rattle.records.specs.declared.Operation.{Operation}
-use Rattle.roll.specs.Asking.{cause, asked, of_roll, entry_key}
+use Rattle.roll.specs.Asking.{refuse, asked, of_roll, entry_key}
 use Rattle.roll.specs.declared.asking.Ask.{Ask}
-use Rattle.roll.specs.declared.asking.Ask.TheVariants.{Below, Write, Read, Refuse}
-use Rattle.roll.specs.declared.asking.Refusal.TheVariants.{NotStanding}
+use Rattle.roll.specs.declared.asking.Ask.TheVariants.{Below, Write, Read}
+use Rattle.roll.specs.Refusals.{refused}
+use Rattle.roll.specs.declared.refusals.Refusal.TheVariants.{NotStanding}
+use Rattle.roll.specs.declared.refusals.Refused.{Refused}
 use Rattle.roll.specs.declared.halls.Roll.{Roll}
 
 -- what a page holds
@@ -33,26 +35,26 @@ abbrev pub stands : List ℕ → Operation → Bool
 stands tokens o = nat_le o.grant 15 && (not (o.token == 0) && entry tokens o.grant == o.token)
 
 -- where the grant does not stand nothing else is looked at
-abbrev pub admitted : List ℕ → Operation → Ask
-admitted tokens o = cond (stands tokens o) (asked o) (Refuse NotStanding o.grant)
+abbrev pub admitted : List ℕ → Operation → Result Ask Refused
+admitted tokens o = cond (stands tokens o) (asked o) (refuse NotStanding o.grant)
 
 -- whether a token fills an entry
 abbrev pub filled : ℕ → ℤ
 filled token = cond (token == 0) (pos 0) (pos 1)
 
 -- What is answered to what is asked: kinds 1 to 3 tell whether the entry was filled before.
-abbrev pub says : Model → Sheet → Operation → Ask → Answer
-says m s o Below = m.answer s.below o
-says m s o (Write a token) = done_with 3 (filled (entry s.tokens a))
-says m s o (Read a) = done_with 3 (filled (entry s.tokens a))
-says m s o (Refuse why place) = fault_at 3 (cause why) place
+abbrev pub says : Model → Sheet → Operation → Result Ask Refused → Answer
+says m s o (Ok Below) = m.answer s.below o
+says m s o (Ok (Write a token)) = done_with 3 (filled (entry s.tokens a))
+says m s o (Ok (Read a)) = done_with 3 (filled (entry s.tokens a))
+says m s o (Err r) = refused r
 
 -- What it makes of the sheet.
-abbrev pub changed : Model → Sheet → Operation → Ask → Sheet
-changed m s o Below = record { tokens = s.tokens; below = m.next s.below o }
-changed m s o (Write a token) = record { tokens = slice_set s.tokens a token; below = s.below }
-changed m s o (Read a) = s
-changed m s o (Refuse why place) = s
+abbrev pub changed : Model → Sheet → Operation → Result Ask Refused → Sheet
+changed m s o (Ok Below) = record { tokens = s.tokens; below = m.next s.below o }
+changed m s o (Ok (Write a token)) = record { tokens = slice_set s.tokens a token; below = s.below }
+changed m s o (Ok (Read a)) = s
+changed m s o (Err r) = s
 
 -- What an operation answers, and the sheet after it.
 abbrev pub answer : Model → Sheet → Operation → Answer

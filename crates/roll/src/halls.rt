@@ -1,18 +1,15 @@
 // The roll as a book: it answers for eight halls, and hands on to the book below what is not its own.
 ghost use Rattle.std.specs.Prelude.{◌≡◌, ℕ, ◌<◌, ◌≢◌};
-ghost use Rattle.records.specs.Answers.{done_with, fault_at};
-ghost use Rattle.roll.specs.Asking.{cause};
+ghost use Rattle.records.specs.Answers.{done_with};
 ghost use Rattle.roll.specs.Roll.{filled, answer, after, roll_model, sheet_of, page_of, first_page};
 ghost use Rattle.roll.specs.Laws.{own_page, roll_lawful};
 ghost use Rattle.roll.specs.Table.{length_hall};
 
-use super::asking::{Ask, EMPTY, Refusal, cause_of, is_of_roll, key_of_entry};
+use super::LAYER;
+use super::asking::{Ask, EMPTY, is_of_roll, key_of_entry};
 use super::tokens::Tokens;
-use book::{Book, HALLS, NO_HALL};
-use records::{Answer, Operation};
-
-// The layer of the roll's own answers.
-pub const LAYER: u8 = 3;
+use book::{Book, HALLS, refuse_hall};
+use records::{Answer, Below, Operation};
 
 // The tokens of the deputies, over the book that they work in.
 #[derive(Drop)]
@@ -37,46 +34,37 @@ impl<B: Book> Roll<B> {
 fn tell(token: u32) -> Answer
     ensures { result ≡ done_with 3 (filled token) }
 {
-    Answer::done(LAYER, if token == EMPTY { 0 } else { 1 })
-}
-
-fn refuse(why: Refusal, place: u16) -> Answer
-    ensures { result ≡ fault_at 3 (cause why) place }
-{
-    Answer::fault(LAYER, cause_of(why), place)
-}
-
-// The answer where there is no such hall.
-fn refuse_hall(hall: u8) -> Answer
-    ensures { result ≡ fault_at 3 255 hall }
-{
-    Answer::fault(LAYER, NO_HALL, u16::from(hall))
+    Answer::done(LAYER, i32::from(token != EMPTY))
 }
 
 // What is asked at one of the eight halls.
 impl<B: Book> Roll<B> {
-    fn verdict_at(&self, hall: u8, op: Operation) -> Answer
-        requires { hall < 8 }
+    fn verdict_at(&self, hall: Below<HALLS>, op: Operation) -> Answer
         ensures { result ≡ answer B.model (sheet_of B.pages self.now hall) op }
     {
-        match self.tokens.admit(hall, op) {
-            Ask::Below => self.below.verdict(hall, op),
+        let ask = match self.tokens.admit(hall, op) {
+            Ok(ask) => ask,
+            Err(refused) => return Answer::from(refused),
+        };
+        match ask {
+            Ask::Below => self.below.verdict(hall.get() as u8, op),
             Ask::Write(entry, _) | Ask::Read(entry) => tell(self.tokens.at(hall, entry)),
-            Ask::Refuse(why, place) => refuse(why, place),
         }
     }
 
-    fn run_at(&mut self, hall: u8, op: Operation) -> Answer
-        requires { hall < 8 }
+    fn run_at(&mut self, hall: Below<HALLS>, op: Operation) -> Answer
         ensures answer { result ≡ answer B.model (sheet_of B.pages self.old hall) op }
         ensures here { sheet_of B.pages self.new hall ≡ after B.model (sheet_of B.pages self.old hall) op }
         ensures others { (h : ℕ) → (h ≢ hall) → sheet_of B.pages self.new h ≡ sheet_of B.pages self.old h }
     {
-        match self.tokens.admit(hall, op) {
-            Ask::Below => self.below.run(hall, op),
+        let ask = match self.tokens.admit(hall, op) {
+            Ok(ask) => ask,
+            Err(refused) => return Answer::from(refused),
+        };
+        match ask {
+            Ask::Below => self.below.run(hall.get() as u8, op),
             Ask::Write(entry, token) => tell(self.tokens.put(hall, entry, token)),
             Ask::Read(entry) => tell(self.tokens.at(hall, entry)),
-            Ask::Refuse(why, place) => refuse(why, place),
         }
     }
 }
@@ -101,16 +89,17 @@ impl<B: Book> Book for Roll<B> {
     }
 
     fn verdict(&self, hall: u8, op: Operation) -> Answer {
-        if hall >= HALLS {
-            return refuse_hall(hall);
+        match Below::new(usize::from(hall)) {
+            Some(place) => self.verdict_at(place, op),
+            None => refuse_hall(LAYER, hall),
         }
-        self.verdict_at(hall, op)
     }
 
+    #[tactic(auto, using(crate::specs::Pages::turned_roll))]
     fn run(&mut self, hall: u8, op: Operation) -> Answer {
-        if hall >= HALLS {
-            return refuse_hall(hall);
+        match Below::new(usize::from(hall)) {
+            Some(place) => self.run_at(place, op),
+            None => refuse_hall(LAYER, hall),
         }
-        self.run_at(hall, op)
     }
 }

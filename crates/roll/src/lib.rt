@@ -5,9 +5,14 @@ mod asking;
 mod halls;
 mod kinds;
 mod promises;
+mod refusals;
 mod tokens;
 
-pub use asking::{APPOINT, ENTRIES, READ_ENTRY, REMOVE};
-pub use halls::{LAYER, Roll};
-pub use kinds::Kind;
+pub use asking::ENTRIES;
+pub use halls::Roll;
+pub use kinds::{Kind, UnknownKind};
 pub use promises::{entries_stay, removal_empties};
+pub use refusals::{Refusal, UnknownRefusal};
+
+// The layer of the roll's own answers.
+pub const LAYER: u8 = 3;

@@ -4,6 +4,7 @@ ghost use Rattle.roll.specs.Promises.{RemovalEmpties, EntriesStay};
 use book::Book;
 
 // Under a grant that was removed nothing is done.
+#[tactic(auto, using(crate::proofs::Entries::removal_empties_lem))]
 pub fn removal_empties<B: Book>() -> u8
     ensures { RemovalEmpties B.model }
 {

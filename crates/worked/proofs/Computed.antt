@@ -1,16 +1,12 @@
 -- The worked examples, by computation.
 use Rattle.std.proofs.Common.{refl}
 use Rattle.book.specs.Below.{sum_below, some_below, all_below, table, rows}
-use Rattle.bridge.specs.Page.{no_points as no_match_points}
-use Rattle.bridge.specs.Rules.{no_lines}
-use Rattle.chess.specs.Page.{no_points}
-use Rattle.chess.specs.Rules.{no_games}
 use Rattle.worked.specs.Bridge.{ThreeLines}
 use Rattle.worked.specs.Chess.{OneDrawnBoard}
 use Rattle.worked.specs.Lines.{SheetLines}
 
 pub one_drawn_board : OneDrawnBoard
-unfolding sum_below some_below all_below table rows no_points no_games
+unfolding sum_below some_below all_below table rows
 one_drawn_board = record {
   not_before_the_result = refl;
   white = refl;
@@ -22,7 +18,7 @@ one_drawn_board = record {
 }
 
 pub three_lines : ThreeLines
-unfolding sum_below some_below all_below table rows no_match_points no_lines
+unfolding sum_below some_below all_below table rows
 three_lines = record {
   not_one_alone = refl;
   not_twice = refl;

@@ -1,13 +1,15 @@
-use Rattle.std.proofs.Common.{arith}
-use Rattle.roll.specs.Pages.{told_roll, turned_roll}
+use Rattle.std.proofs.Common.{◌≡◌, ◌≤◌, ap, ◌∙◌, rules}
+use Rattle.book.specs.Model.{told}
+use Rattle.roll.specs.Pages.{told_roll}
+use Rattle.roll.specs.Roll.{roll_model, page_of}
 use Rattle.roll.proofs.halls.RollBook.run.Goals as goal
 
-pub returns : goal.returns
-returns g c =
+pub returns-in-Some-clause-answer : goal.returns-in-Some-clause-answer
+returns-in-Some-clause-answer g c =
     let m = g.B.Book.model in
     let pages = g.B.Book.pages in
     let r = c.args.self.now in
-    record {
-      answer = told_roll m pages r c.args.hall c.args.op (omega arith) c.run_at.result c.run_at.ensures.answer;
-      pages = turned_roll m pages r c.args.hall c.args.op (omega arith) c.run_at.new.self c.run_at.ensures.here c.run_at.ensures.others;
-    }
+    let hall = c.in-Some.place in
+    let inside : hall ≤ 7 = search rules in
+    let same : hall ≡ c.args.hall = search rules in
+    c.run_at.ensures.answer ∙ told_roll m pages r hall c.args.op inside ∙ ap (λ h. told (roll_model m) (page_of pages r) h c.args.op) same

@@ -1,0 +1,30 @@
+-- The numbers of the roll's refusals, and the fault of each.
+use Rattle.std.specs.Prelude.{◌≡◌, ℕ, cond, Some, None, Option, Result, ◌==◌}
+use Rattle.std.specs.Option.{ok_or}
+use Rattle.records.specs.Answers.{fault_at}
+use Rattle.records.specs.declared.Answer.{Answer}
+use Rattle.roll.specs.declared.refusals.Refusal.{Refusal}
+use Rattle.roll.specs.declared.refusals.Refusal.TheVariants.{NotStanding, NotChief, NoEntry, NoToken}
+use Rattle.roll.specs.declared.refusals.Refused.{Refused}
+use Rattle.roll.specs.declared.refusals.UnknownRefusal.{UnknownRefusal}
+
+-- the number of each refusal
+abbrev pub cause : Refusal → ℕ
+cause NotStanding = 1
+cause NotChief = 2
+cause NoEntry = 3
+cause NoToken = 4
+
+abbrev pub refusal_of : ℕ → Option Refusal
+refusal_of n =
+    cond (n == 1) (Some NotStanding)
+    (cond (n == 2) (Some NotChief)
+    (cond (n == 3) (Some NoEntry)
+    (cond (n == 4) (Some NoToken) None)))
+
+-- a number is read as what it is the cause of, and named in the error where it is none's
+abbrev pub ReadsRefusal : ℕ → Result Refusal UnknownRefusal → Type 0
+ReadsRefusal n r = r ≡ ok_or (refusal_of n) (record { 0 = n })
+
+abbrev pub refused : Refused → Answer
+refused r = fault_at 3 (cause r.why) r.place
