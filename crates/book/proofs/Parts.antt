@@ -1,12 +1,12 @@
 -- A sheet in parts: a book whose operations read and write only parts that their keys guard obeys the law of books.
-use Rattle.std.proofs.Common.{◌≡◌, ℕ, ◌≤◌, Bool, true, false, ◌&&◌, eqb, ltb, sym, ap, ◌∙◌, inl, inr, arith}
+use Rattle.std.proofs.Common.{◌≡◌, ℕ, ◌≤◌, Bool, true, false, ltb, sym, ap, ◌∙◌, inl, inr, arith}
 use lib.Bits.{and_comm}
-use mathlib.Core.Path.{fun_ext}
+use Rattle.book.proofs.Turned.{turned_by}
 use Rattle.book.specs.Model.{Page, Disjoint, Lawful, told, turned}
 use Rattle.book.specs.Sheets.{Sheets, sheet_model}
 use Rattle.records.specs.Answers.{Shaped, well_done}
 use Rattle.records.specs.declared.Operation.{Operation}
-use Rattle.std.proofs.lemmas.Bool.{cases_Bool, cases_eq, cond-true, cond-false, lt-ltb, eq-eqb, ne_eqb}
+use Rattle.std.proofs.lemmas.Bool.{cases_Bool, cond-true, lt-ltb}
 
 -- What a book of sheets has to show: its sheets are made of parts, of which an operation reads some and writes some.
 pub record Parted (S P : Type 0) (b : Sheets S) : Type 1 where
@@ -97,12 +97,6 @@ module _ {S : Type 0} (b : Sheets S) (sheets : ℕ → S) (hall : ℕ) (o : Oper
   pub turned_sheet : (new : ℕ → S) → new hall ≡ b.after (sheets hall) o → ((h : ℕ) → (h ≡ hall → ⊥) → new h ≡ sheets h)
       → (λ h. b.write (new h)) ≡ turned (sheet_model b) (λ h. b.write (sheets h)) hall o
   turned_sheet new here there =
-      fun_ext (λ h.
-      let at_hall : (ltb hall 8 && eqb h hall) ≡ eqb h hall = ap (λ t. t && eqb h hall) (lt-ltb hall 8 (omega arith)) in
-      elim (cases_eq h hall) [
-        | inl e ↦
-            ap (λ n. b.write (new n)) e ∙ ap b.write (here ∙ sym (ap (λ s. b.after s o) again))
-            ∙ ap (λ n. b.write (b.after (b.read (b.write (sheets n))) o)) (sym e)
-            ∙ sym (cond-true (ltb hall 8 && eqb h hall) _ _ (at_hall ∙ eq-eqb h hall e))
-        | inr n ↦ ap b.write (there h n) ∙ sym (cond-false (ltb hall 8 && eqb h hall) _ _ (at_hall ∙ ne_eqb h hall n))
-      ])
+      turned_by (sheet_model b) (λ h. b.write (sheets h)) (λ h. b.write (new h)) hall o (omega arith)
+      (ap b.write (here ∙ sym (ap (λ s. b.after s o) again)))
+      (λ h n. ap b.write (there h n))

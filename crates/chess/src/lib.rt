@@ -8,12 +8,7 @@ mod rules;
 mod sheet;
 
 pub use asking::BoardAsk;
-use book::Halls;
 pub use kinds::Kind;
 pub use promises::games_give_a_point;
-use rounds::Kept;
-pub use rules::LAYER;
+pub use rules::{Chess, LAYER};
 pub use sheet::{Board, Game, Outcome};
-
-// A sheet of boards for each of eight halls.
-pub type Chess = Halls<Kept<Board, 32, 64>>;

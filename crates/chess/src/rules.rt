@@ -7,11 +7,15 @@ ghost use Rattle.chess.specs.Rules.{result_number, seat_says, enter_says, read_s
 
 use super::asking::{BoardAsk, asked, keys};
 use super::sheet::{BOARDS, Board, Game, Outcome, PLAYERS};
+use book::Halls;
 use records::Operation;
-use rounds::{Ask, Cell, Fault};
+use rounds::{Ask, Cell, Fault, Kept};
 
 // The layer of this book's answers.
 pub const LAYER: u8 = 1;
+
+// The book of chess: a sheet of boards for each of eight halls.
+pub type Chess = Halls<Kept<Board, BOARDS, PLAYERS>>;
 
 fn number_of(ended: Option<Outcome>) -> u8
     ensures value { result ≡ result_number ended }
@@ -113,7 +117,10 @@ impl Cell<BOARDS, PLAYERS> for Board {
                     result: None,
                 });
             }
-            BoardAsk::Enter(_, ended) => self.game = self.game.map(|game| Game { result: ended, ..game }),
+            BoardAsk::Enter(_, ended) => self.game = self.game.map(|game| Game {
+                result: ended,
+                ..game
+            }),
             BoardAsk::Read => {}
         }
     }

@@ -12,7 +12,7 @@ pub const ENTRIES: usize = 16;
 // The chief's entry, and the grant that goes with it.
 pub(crate) const CHIEF: u8 = 0;
 
-// The token of an empty entry.
+// The token of an empty entry: a number and no Option, since docs/RULES.md writes a page so.
 pub(crate) const EMPTY: u32 = 0;
 
 // The key of entry 0; the others follow.

@@ -54,5 +54,6 @@ pub trait Cell<const CELLS: usize, const TOTALS: usize>: Copy {
 
     ghost fits: { Fits LAYER game };
 
+    // what is asked can be passed by value
     ghost roomy: { AskFitsInMemory Self.Ask.row CELLS.row TOTALS.row };
 }

@@ -13,7 +13,7 @@ mod sheets;
 pub use asks::Ask;
 pub use cells::Cell;
 use records::Answer;
-pub use sheets::{Kept, Sheet};
+pub use sheets::Kept;
 use std::error::Error;
 use std::fmt;
 

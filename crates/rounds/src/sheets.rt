@@ -83,6 +83,7 @@ impl<C: Cell<CELLS, TOTALS>, const CELLS: usize, const TOTALS: usize> Sheet<C, C
         ensures { result ≡ raised self.now.totals (gained C.game self.now) }
     {
         let mut totals = self.totals;
+        // by index: after `iter_mut().enumerate()` the check knows nothing of the array
         for i in 0..TOTALS {
             totals[i] += self.gained(i);
         }
