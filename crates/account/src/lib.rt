@@ -22,18 +22,28 @@ fn score_in<B: Book + Drop>(rt: &HostRuntime, mut book: B, text: &[u8]) -> io::R
     print_account(rt, &scored, list.as_slice())
 }
 
+// Scores a sheet in the book that `new` makes, under a roll where the sheet has a chief. The book is made here: a
+// function that names a value of bridge gets no proof in this crate.
+fn score_under<B: Book + Drop, N: FnOnce() -> B>(
+    rt: &HostRuntime,
+    chief: Option<u32>,
+    new: N,
+    text: &[u8],
+) -> io::Result<()>
+    requires { N.IsAlwaysCallable new }
+{
+    match chief {
+        None => score_in(rt, new(), text),
+        Some(chief) => score_in(rt, Roll::new(chief, new()), text),
+    }
+}
+
 pub fn score_input(rt: &HostRuntime) -> io::Result<()> {
     let mut text = Vec::new(rt.alloc());
     rt.stdin().read_to_end(&mut text)?;
     let at = headings_of(text.as_slice());
-    match (at.game, at.chief) {
-        (Game::Chess, None) => score_in(rt, Chess::new(), text.as_slice()),
-        (Game::Chess, Some(chief)) => score_in(rt, Roll::new(chief, Chess::new()), text.as_slice()),
-        (Game::Bridge, None) => score_in(rt, Bridge::new(), text.as_slice()),
-        (Game::Bridge, Some(chief)) => score_in(
-            rt,
-            Roll::new(chief, Bridge::new()),
-            text.as_slice(),
-        ),
+    match at.game {
+        Game::Chess => score_under(rt, at.chief, Chess::new, text.as_slice()),
+        Game::Bridge => score_under(rt, at.chief, Bridge::new, text.as_slice()),
     }
 }

@@ -1,7 +1,8 @@
 // Prints the account of a sheet.
-use super::words::{Bearer, Party, Points, Reason, Said, What, expected_words, game_words};
+use super::words::{Entry, Party, Points, Reason};
 use entries::Game;
-use scoring::{Event, LogEntry, Scored, Standing, next_round, place_of};
+use scoring::{LogEntry, Scored, Standing, next_round, place_of};
+use std::fmt::Display;
 use std::io;
 
 // A part of the account has the line `none` where it would be empty.
@@ -12,24 +13,25 @@ fn print_none_if(rt: &impl Print, empty: bool) -> io::Result<()> {
     Ok(())
 }
 
-fn print_entry(rt: &impl Print, line: usize, event: Event) -> io::Result<()> {
-    match event {
-        Event::Answered(op, answer) => {
-            let what = What(op);
-            let bearer = Bearer(op.grant);
-            let said = Said(op.kind, answer);
-            println!(rt; "line {line}: {what}{bearer}: {said}")
-        }
-        Event::Unreadable(_) => println!(rt; "line {line}: cannot be read"),
-    }
-}
-
-fn print_entries(rt: &impl Print, log: &[LogEntry]) -> io::Result<()> {
-    println!(rt; "Entries")?;
+// A part with a line for each event of which `pick` tells something.
+fn print_part<R: Print, T: Display + Drop, F: Fn(&LogEntry) -> Option<T> + Drop>(
+    rt: &R,
+    title: &str,
+    log: &[LogEntry],
+    pick: F,
+) -> io::Result<()>
+    requires { F.IsAlwaysCallable pick }
+{
+    println!(rt; "{title}")?;
+    let mut empty = true;
     for entry in log {
-        print_entry(rt, entry.line, entry.event)?;
+        if let Some(words) = pick(entry) {
+            empty = false;
+            let line = entry.line;
+            println!(rt; "line {line}: {words}")?;
+        }
     }
-    print_none_if(rt, log.is_empty())
+    print_none_if(rt, empty)
 }
 
 fn print_standings(rt: &impl Print, game: Game, round: i32, list: &[Standing]) -> io::Result<()> {
@@ -43,48 +45,24 @@ fn print_standings(rt: &impl Print, game: Game, round: i32, list: &[Standing]) -
     print_none_if(rt, list.is_empty())
 }
 
-fn print_refused(rt: &impl Print, log: &[LogEntry]) -> io::Result<()> {
-    println!(rt; "Refused")?;
-    let mut none = true;
-    for entry in log {
-        if let Event::Answered(_, answer) = entry.event {
-            if !answer.is_well_done() {
-                none = false;
-                let line = entry.line;
-                let reason = Reason(answer);
-                println!(rt; "line {line}: {reason}")?;
-            }
-        }
+fn refusal(entry: &LogEntry) -> Option<Reason> {
+    match entry.event {
+        Ok(answered) if !answered.answer.is_well_done() => Some(Reason(answered.answer)),
+        _ => None,
     }
-    print_none_if(rt, none)
-}
-
-fn print_unread(rt: &impl Print, log: &[LogEntry]) -> io::Result<()> {
-    println!(rt; "Not read")?;
-    let mut none = true;
-    for entry in log {
-        if let Event::Unreadable(misread) = entry.event {
-            none = false;
-            let line = entry.line;
-            let word = misread.word;
-            let expected = expected_words(misread.expected);
-            println!(rt; "line {line}: word {word}: expected {expected}")?;
-        }
-    }
-    print_none_if(rt, none)
 }
 
 pub fn print_account(rt: &impl Print, scored: &Scored, list: &[Standing]) -> io::Result<()> {
-    let game = game_words(scored.at.game);
+    let game = scored.at.game;
     let hall = scored.at.hall;
     let log = scored.log.as_slice();
     println!(rt; "{game} scoresheet of hall {hall}")?;
     println!(rt; "")?;
-    print_entries(rt, log)?;
+    print_part(rt, "Entries", log, |entry| Some(Entry(entry.event)))?;
     println!(rt; "")?;
-    print_standings(rt, scored.at.game, next_round(scored.at.game, log), list)?;
+    print_standings(rt, game, next_round(game, log), list)?;
     println!(rt; "")?;
-    print_refused(rt, log)?;
+    print_part(rt, "Refused", log, refusal)?;
     println!(rt; "")?;
-    print_unread(rt, log)
+    print_part(rt, "Not read", log, |entry| entry.event.err())
 }

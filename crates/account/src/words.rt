@@ -1,43 +1,45 @@
 // The words of an account.
-use entries::{Expected, Field, Game};
+use entries::{Game, Misread, Score};
 use records::{Answer, Operation};
+use roll::Refusal;
+use rounds::Fault;
+use scoring::Answered;
 use std::fmt;
 
-fn words_of_roll(cause: u8) -> &'static str {
-    match cause {
-        1 => "the grant does not stand",
-        2 => "only the chief may do this",
-        3 => "no such entry of the roll",
-        4 => "no such token",
-        _ => "no such cause",
+fn words_of_roll(refusal: Refusal) -> &'static str {
+    match refusal {
+        Refusal::NotStanding => "the grant does not stand",
+        Refusal::NotChief => "only the chief may do this",
+        Refusal::NoEntry => "no such entry of the roll",
+        Refusal::NoToken => "no such token",
     }
 }
 
-fn words_of_chess(cause: u8) -> &'static str {
-    match cause {
-        1 => "no such board",
-        2 => "no such player, or the same player twice",
-        3 => "the board has a result",
-        4 => "nobody is seated at the board",
-        5 => "not the round being played",
-        6 => "no such result",
-        7 => "the round cannot be closed",
-        9 => "no such kind of operation",
-        _ => "no such cause",
-    }
+fn words_of_chess(fault: Fault) -> Option<&'static str> {
+    Some(match fault {
+        Fault::NoPlace => "no such board",
+        Fault::NoParty => "no such player, or the same player twice",
+        Fault::HasResult => "the board has a result",
+        Fault::Nothing => "nobody is seated at the board",
+        Fault::OtherRound => "not the round being played",
+        Fault::BadResult => "no such result",
+        Fault::NotClosable => "the round cannot be closed",
+        Fault::Elsewhere => return None,
+        Fault::UnknownKind => "no such kind of operation",
+    })
 }
 
-fn words_of_bridge(cause: u8) -> &'static str {
-    match cause {
-        1 => "no such deal",
-        2 => "no such pair",
-        4 => "no such line",
-        6 => "no such score",
-        7 => "the round cannot be closed",
-        8 => "the pair is on another line of the deal",
-        9 => "no such kind of operation",
-        _ => "no such cause",
-    }
+fn words_of_bridge(fault: Fault) -> Option<&'static str> {
+    Some(match fault {
+        Fault::NoPlace => "no such deal",
+        Fault::NoParty => "no such pair",
+        Fault::Nothing => "no such line",
+        Fault::BadResult => "no such score",
+        Fault::NotClosable => "the round cannot be closed",
+        Fault::Elsewhere => "the pair is on another line of the deal",
+        Fault::UnknownKind => "no such kind of operation",
+        Fault::HasResult | Fault::OtherRound => return None,
+    })
 }
 
 // Why an entry was refused.
@@ -45,69 +47,31 @@ fn cause_words(layer: u8, cause: u8) -> &'static str {
     if cause == book::NO_HALL {
         return "no such hall";
     }
-    match layer {
-        roll::LAYER => words_of_roll(cause),
-        chess::LAYER => words_of_chess(cause),
-        bridge::LAYER => words_of_bridge(cause),
-        _ => "no such cause",
-    }
-}
-
-fn field_words(field: Field) -> &'static str {
-    match field {
-        Field::Byte => "a number from 0 to 255",
-        Field::Number => "a number from 0 to 65535",
-        Field::Count => "a number from 0 to 2147483647",
-        Field::Token => "a number from 0 to 4294967295",
-        Field::Whole => "a number from -2147483648 to 2147483647",
-        Field::Score => "1-0, 1/2 or 0-1",
-    }
-}
-
-// What was expected where a word is at fault.
-pub fn expected_words(expected: Expected) -> &'static str {
-    match expected {
-        Expected::Opening => "hall, game, chief, as or an entry",
-        Expected::Entry => "an entry or as, since headings come first",
-        Expected::Game => "chess or bridge",
-        Expected::Value(field) => field_words(field),
-        Expected::End => "the end of the line",
-    }
-}
-
-pub fn game_words(game: Game) -> &'static str {
-    match game {
-        Game::Chess => "Chess",
-        Game::Bridge => "Bridge",
-    }
-}
-
-// The result that a number stands for, as a scoresheet writes it.
-fn result_words(res: i32) -> Option<&'static str> {
-    match res {
-        1 => Some("1-0"),
-        2 => Some("1/2"),
-        3 => Some("0-1"),
+    let words = match layer {
+        roll::LAYER => Refusal::try_from(cause).ok().map(words_of_roll),
+        chess::LAYER => Fault::try_from(cause).ok().and_then(words_of_chess),
+        bridge::LAYER => Fault::try_from(cause).ok().and_then(words_of_bridge),
         _ => None,
-    }
+    };
+    words.unwrap_or("no such cause")
 }
 
 // A result where it is one, else the number.
-#[derive(Clone, Copy)]
-struct Score(i32);
+#[derive(Clone, Copy, Debug, PartialEq, Eq, Hash)]
+struct ScoreOr(i32);
 
-impl fmt::Display for Score {
+impl fmt::Display for ScoreOr {
     fn fmt<W: fmt::Write>(&self, f: &mut fmt::Formatter<W>) -> fmt::Result {
         let number = self.0;
-        match result_words(number) {
-            Some(words) => write!(f, "{words}"),
-            None => write!(f, "{number}"),
+        match Score::try_from(number) {
+            Ok(score) => write!(f, "{score}"),
+            Err(_) => write!(f, "{number}"),
         }
     }
 }
 
 // Half points, written in points.
-#[derive(Clone, Copy)]
+#[derive(Clone, Copy, Debug, PartialEq, Eq, Hash)]
 struct HalfPoints(u32);
 
 impl fmt::Display for HalfPoints {
@@ -122,7 +86,7 @@ impl fmt::Display for HalfPoints {
 }
 
 // The points of a party in a game.
-#[derive(Clone, Copy)]
+#[derive(Clone, Copy, Debug, PartialEq, Eq, Hash)]
 pub struct Points(pub Game, pub u32);
 
 impl fmt::Display for Points {
@@ -139,7 +103,7 @@ impl fmt::Display for Points {
 }
 
 // The name of a party of a game, by its number from 0.
-#[derive(Clone, Copy)]
+#[derive(Clone, Copy, Debug, PartialEq, Eq, Hash)]
 pub struct Party(pub Game, pub u8);
 
 impl fmt::Display for Party {
@@ -163,9 +127,32 @@ impl fmt::Display for Party {
     }
 }
 
+// The kinds of operations of the three books.
+#[derive(Clone, Copy, Debug, PartialEq, Eq, Hash)]
+enum Kind {
+    Roll(roll::Kind),
+    Chess(chess::Kind),
+    Bridge(bridge::Kind),
+    Other(u8),
+}
+
+impl From<u8> for Kind {
+    fn from(number: u8) -> Kind {
+        if let Ok(kind) = roll::Kind::try_from(number) {
+            Kind::Roll(kind)
+        } else if let Ok(kind) = chess::Kind::try_from(number) {
+            Kind::Chess(kind)
+        } else if let Ok(kind) = bridge::Kind::try_from(number) {
+            Kind::Bridge(kind)
+        } else {
+            Kind::Other(number)
+        }
+    }
+}
+
 // What an entry asks.
-#[derive(Clone, Copy)]
-pub struct What(pub Operation);
+#[derive(Clone, Copy, Debug, PartialEq, Eq, Hash)]
+struct What(Operation);
 
 impl fmt::Display for What {
     fn fmt<W: fmt::Write>(&self, f: &mut fmt::Formatter<W>) -> fmt::Result {
@@ -177,29 +164,35 @@ impl fmt::Display for What {
             d,
             ..
         } = self.0;
-        let score = Score(c);
-        match kind {
-            roll::APPOINT => write!(f, "appoint {a}"),
-            roll::REMOVE => write!(f, "remove {a}"),
-            roll::READ_ENTRY => write!(f, "deputy {a}"),
-            chess::SEAT => write!(f, "seat {b} and {c} at board {a}"),
-            chess::ENTER => write!(f, "result {score} at board {a} for round {b}"),
-            chess::READ => write!(f, "show board {a}"),
-            bridge::SCORE => write!(f, "score {c} on deal {a} for N-S {b} and E-W {d}"),
-            bridge::READ => write!(f, "line of N-S {b} on deal {a}"),
-            chess::CLOSE | bridge::CLOSE => write!(f, "close round {a}"),
-            chess::TOTAL => write!(f, "total of player {a}"),
-            bridge::TOTAL => write!(f, "total {a}"),
-            _ => write!(f, "operation of kind {kind}"),
+        let score = ScoreOr(c);
+        match Kind::from(kind) {
+            Kind::Roll(roll::Kind::Appoint) => write!(f, "appoint {a}"),
+            Kind::Roll(roll::Kind::Remove) => write!(f, "remove {a}"),
+            Kind::Roll(roll::Kind::Read) => write!(f, "deputy {a}"),
+            Kind::Chess(chess::Kind::Seat) => write!(f, "seat {b} and {c} at board {a}"),
+            Kind::Chess(chess::Kind::Enter) => {
+                write!(f, "result {score} at board {a} for round {b}")
+            }
+            Kind::Chess(chess::Kind::Read) => write!(f, "show board {a}"),
+            Kind::Chess(chess::Kind::Total) => write!(f, "total of player {a}"),
+            Kind::Bridge(bridge::Kind::Score) => {
+                write!(f, "score {c} on deal {a} for N-S {b} and E-W {d}")
+            }
+            Kind::Bridge(bridge::Kind::Read) => write!(f, "line of N-S {b} on deal {a}"),
+            Kind::Bridge(bridge::Kind::Total) => write!(f, "total {a}"),
+            Kind::Chess(chess::Kind::Close) | Kind::Bridge(bridge::Kind::Close) => {
+                write!(f, "close round {a}")
+            }
+            Kind::Other(number) => write!(f, "operation of kind {number}"),
         }
     }
 }
 
 // By whom an entry was made, where it was not the chief.
-#[derive(Clone, Copy)]
-pub struct Bearer(pub u8);
+#[derive(Clone, Copy, Debug, PartialEq, Eq, Hash)]
+struct By(u8);
 
-impl fmt::Display for Bearer {
+impl fmt::Display for By {
     fn fmt<W: fmt::Write>(&self, f: &mut fmt::Formatter<W>) -> fmt::Result {
         let grant = self.0;
         if grant == 0 {
@@ -211,32 +204,38 @@ impl fmt::Display for Bearer {
 }
 
 // What came of an entry that was well done: the value in the words of its kind.
-#[derive(Clone, Copy)]
+#[derive(Clone, Copy, Debug, PartialEq, Eq, Hash)]
 struct Outcome(u8, i32);
 
 impl fmt::Display for Outcome {
     fn fmt<W: fmt::Write>(&self, f: &mut fmt::Formatter<W>) -> fmt::Result {
         let Outcome(kind, value) = *self;
-        let score = Score(value);
+        let score = ScoreOr(value);
         let half = HalfPoints(value.max(0) as u32);
-        match kind {
-            roll::APPOINT | bridge::SCORE if value != 0 => write!(f, "done, in place of another"),
-            roll::REMOVE if value == 0 => write!(f, "done, nobody was appointed"),
-            roll::READ_ENTRY if value == 0 => write!(f, "nobody"),
-            roll::READ_ENTRY => write!(f, "appointed"),
-            chess::ENTER if value != 0 => write!(f, "done, in place of {score}"),
-            chess::READ if value == 0 => write!(f, "no result"),
-            chess::READ => write!(f, "{score}"),
-            chess::CLOSE | bridge::CLOSE => write!(f, "done, round {value} begins"),
-            chess::TOTAL => write!(f, "{half}"),
-            bridge::READ | bridge::TOTAL => write!(f, "{value}"),
+        match Kind::from(kind) {
+            Kind::Roll(roll::Kind::Appoint) | Kind::Bridge(bridge::Kind::Score) if value != 0 => {
+                write!(f, "done, in place of another")
+            }
+            Kind::Roll(roll::Kind::Remove) if value == 0 => {
+                write!(f, "done, nobody was appointed")
+            }
+            Kind::Roll(roll::Kind::Read) if value == 0 => write!(f, "nobody"),
+            Kind::Roll(roll::Kind::Read) => write!(f, "appointed"),
+            Kind::Chess(chess::Kind::Enter) if value != 0 => write!(f, "done, in place of {score}"),
+            Kind::Chess(chess::Kind::Read) if value == 0 => write!(f, "no result"),
+            Kind::Chess(chess::Kind::Read) => write!(f, "{score}"),
+            Kind::Chess(chess::Kind::Close) | Kind::Bridge(bridge::Kind::Close) => {
+                write!(f, "done, round {value} begins")
+            }
+            Kind::Chess(chess::Kind::Total) => write!(f, "{half}"),
+            Kind::Bridge(bridge::Kind::Read | bridge::Kind::Total) => write!(f, "{value}"),
             _ => write!(f, "done"),
         }
     }
 }
 
 // A fault in words.
-#[derive(Clone, Copy)]
+#[derive(Clone, Copy, Debug, PartialEq, Eq, Hash)]
 pub struct Reason(pub Answer);
 
 impl fmt::Display for Reason {
@@ -253,8 +252,8 @@ impl fmt::Display for Reason {
 }
 
 // The answer to an entry of a kind.
-#[derive(Clone, Copy)]
-pub struct Said(pub u8, pub Answer);
+#[derive(Clone, Copy, Debug, PartialEq, Eq, Hash)]
+struct Said(u8, Answer);
 
 impl fmt::Display for Said {
     fn fmt<W: fmt::Write>(&self, f: &mut fmt::Formatter<W>) -> fmt::Result {
@@ -265,6 +264,24 @@ impl fmt::Display for Said {
         } else {
             let reason = Reason(answer);
             write!(f, "refused, {reason}")
+        }
+    }
+}
+
+// A line of the sheet, as the account tells it.
+#[derive(Clone, Copy, Debug, PartialEq, Eq, Hash)]
+pub struct Entry(pub Result<Answered, Misread>);
+
+impl fmt::Display for Entry {
+    fn fmt<W: fmt::Write>(&self, f: &mut fmt::Formatter<W>) -> fmt::Result {
+        match self.0 {
+            Ok(Answered { operation, answer }) => {
+                let what = What(operation);
+                let by = By(operation.grant);
+                let said = Said(operation.kind, answer);
+                write!(f, "{what}{by}: {said}")
+            }
+            Err(_) => write!(f, "cannot be read"),
         }
     }
 }

@@ -1,17 +1,15 @@
 -- On every line the two sides share 2 points for each other line; only closing gives points.
-use Rattle.std.proofs.Common.{◌≡◌, ℕ, ◌+◌, ◌*◌, true, cond, eqb, ℤ, Ok, Err, Result, Some, None, sym, refl, ◌∙◌, inl, inr, arith}
+use Rattle.std.proofs.Common.{◌≡◌, ℕ, ◌+◌, ◌*◌, true, cond, eqb, ℤ, Some, None, sym, refl, ◌∙◌, inl, inr, arith}
 use Rattle.book.proofs.Below.{sum_same, sum_add, sum_times, sum_without}
 use Rattle.book.specs.Below.{sum_below}
-use Rattle.bridge.specs.Asking.{asked, Ask}
-use Rattle.bridge.specs.Deals.{asked_by}
-use Rattle.bridge.specs.Page.{Sheet, bridge_game}
+use Rattle.bridge.specs.Asking.{asked}
+use Rattle.bridge.specs.Laws.{asked_by}
+use Rattle.bridge.specs.Page.{bridge}
 use Rattle.bridge.specs.Points.{Line, line, filled, filled_at, won, against, points_from, points}
 use Rattle.bridge.specs.Promises.{SidesSharePoints, PointsStayElse}
 use Rattle.bridge.specs.declared.sheet.Side.TheVariants.{NorthSouth, EastWest}
 use Rattle.records.specs.declared.Operation.{Operation}
-use Rattle.rounds.specs.Sheets.{says, left, made}
-use Rattle.rounds.specs.declared.Fault.{Fault}
-use Rattle.rounds.specs.declared.asks.Ask.TheVariants.{Cell, Close, Total}
+use Rattle.rounds.proofs.Stay.{Closes, totals_stay}
 use Rattle.std.proofs.lemmas.Int.{ints}
 use Rattle.std.proofs.lemmas.Bool.{cases_Bool, cond-true, cond-false, false≢true}
 
@@ -47,24 +45,8 @@ sides_share_points_lem d b l h =
     omega (arith, sum_without (filled_at d) b 8 l)
 
 -- only kind 34 asks to close
-abbrev Closes : Operation → Result Ask Fault → Type 0
-Closes o (Ok (Cell a ask)) = Unit {0}
-Closes o (Ok (Close round)) = o.kind ≡ 34
-Closes o (Ok (Total i)) = Unit {0}
-Closes o (Err fault) = Unit {0}
-
-closes : (o : Operation) → Closes o (asked o)
-closes o = asked_by o (Closes o) (λ _. tt) (λ _ _ _. tt) (λ kind. kind) (λ _. tt)
-
-left_totals : (s : Sheet) (o : Operation) (x : Ask) (r : Result ℤ Fault) → Closes o (Ok x) → (o.kind ≡ 34 → ⊥) → (left bridge_game s x r).totals ≡ s.totals
-left_totals s o (Cell a ask) (Ok value) k other = refl
-left_totals s o (Close round) (Ok value) k other = absurd (other k)
-left_totals s o (Total i) (Ok value) k other = refl
-left_totals s o x (Err fault) k other = refl
-
-made_totals : (s : Sheet) (o : Operation) (x : Result Ask Fault) → Closes o x → (o.kind ≡ 34 → ⊥) → (made bridge_game s x).totals ≡ s.totals
-made_totals s o (Ok x) k other = left_totals s o x (says bridge_game s x) k other
-made_totals s o (Err fault) k other = refl
+closes : (o : Operation) → Closes 34 o (asked o)
+closes o = asked_by o (Closes 34 o) (λ _. tt) (λ _ _ _. tt) (λ kind. kind) (λ _. tt)
 
 pub points_stay_else : PointsStayElse
-points_stay_else s o other = made_totals s o (asked o) (closes o) other
+points_stay_else s o other = totals_stay bridge 34 s o other (closes o)

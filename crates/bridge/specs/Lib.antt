@@ -3,5 +3,5 @@ pub mod Asking
 pub mod Points
 pub mod Rules
 pub mod Page
-pub mod Deals
+pub mod Laws
 pub mod Promises

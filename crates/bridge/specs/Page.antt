@@ -38,8 +38,8 @@ abbrev pub sized : Deal → Bool
 sized d = length d.lines == 8
 
 -- 16 deals of 24 numbers, 16 totals, and no deal gives a total more than 128
-abbrev pub bridge_game : Game Deal DealAsk 16 16
-bridge_game = record {
+abbrev pub bridge : Game Deal DealAsk 16 16
+bridge = record {
   layer = 2;
   asked = asked;
   keys = keys;
@@ -61,17 +61,17 @@ Sheet = SheetOf Deal 16 16
 
 -- what an operation answers, and the sheet of a hall after it
 abbrev pub answer : Sheet → Operation → Answer
-answer = sheets.answer bridge_game
+answer = sheets.answer bridge
 
 abbrev pub after : Sheet → Operation → Sheet
-after = sheets.after bridge_game
+after = sheets.after bridge
 
 abbrev pub write : Sheet → Page
-write = pages.write bridge_game
+write = pages.write bridge
 
 -- round 1, no lines and no points
 abbrev pub blank : Sheet
-blank = pages.blank bridge_game
+blank = pages.blank bridge
 
 abbrev pub bridge_model : Model
-bridge_model = pages.model bridge_game
+bridge_model = pages.model bridge

@@ -64,13 +64,13 @@ fn is_fair(score: i32) -> bool
     size <= LARGEST && size % STEP == 0
 }
 
-fn place_of(number: u16) -> Result<Below<DEALS>, Fault>
+fn place(number: u16) -> Result<Below<DEALS>, Fault>
     ensures { result ≡ place number }
 {
     Below::new(usize::from(number)).ok_or(Fault::NoPlace)
 }
 
-fn party_of(number: u16) -> Result<Below<PAIRS>, Fault>
+fn party(number: u16) -> Result<Below<PAIRS>, Fault>
     ensures { result ≡ party number }
 {
     Below::new(usize::from(number)).ok_or(Fault::NoParty)
@@ -79,9 +79,9 @@ fn party_of(number: u16) -> Result<Below<PAIRS>, Fault>
 fn ask_score(op: Operation) -> Result<Ask, Fault>
     ensures { result ≡ asked_score op }
 {
-    let deal = place_of(op.a)?;
-    let north_south = party_of(op.b)?;
-    let pair = party_of(op.d)?;
+    let deal = place(op.a)?;
+    let north_south = party(op.b)?;
+    let pair = party(op.d)?;
     if !is_fair(op.c) {
         return Err(Fault::BadResult);
     }
@@ -94,13 +94,13 @@ fn ask_score(op: Operation) -> Result<Ask, Fault>
 fn ask_line(op: Operation) -> Result<Ask, Fault>
     ensures { result ≡ asked_line op }
 {
-    let deal = place_of(op.a)?;
-    let north_south = party_of(op.b)?;
+    let deal = place(op.a)?;
+    let north_south = party(op.b)?;
     Ok(Ask::Cell(deal, DealAsk::Read(north_south)))
 }
 
 // What an operation asks, or the fault that it gets on every page.
-pub(crate) fn ask_of(op: Operation) -> Result<Ask, Fault>
+pub(crate) fn asked(op: Operation) -> Result<Ask, Fault>
     ensures { result ≡ asked op }
 {
     match Kind::try_from(op.kind)? {
@@ -119,7 +119,7 @@ pub(crate) fn keys(op: Operation) -> u64
         return 0;
     };
     match kind {
-        Kind::Score | Kind::Read => match place_of(op.a) {
+        Kind::Score | Kind::Read => match place(op.a) {
             Ok(deal) => 1 << deal.get(),
             Err(_) => 0,
         },

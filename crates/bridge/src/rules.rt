@@ -1,11 +1,11 @@
 // What each operation answers and makes of a deal: the book of bridge as a game of rounds.
 ghost use Rattle.std.proofs.Common.{rules};
 ghost use Rattle.std.specs.Prelude.{◌≡◌};
-ghost use Rattle.bridge.specs.Deals.{bridge_fits};
-ghost use Rattle.bridge.specs.Page.{bridge_game};
+ghost use Rattle.bridge.specs.Laws.{bridge_fits};
+ghost use Rattle.bridge.specs.Page.{bridge};
 ghost use Rattle.bridge.specs.Rules.{score_says, read_says};
 
-use super::asking::{DealAsk, ask_of, keys};
+use super::asking::{DealAsk, asked, keys};
 use super::sheet::{DEALS, Deal, Entry, PAIRS, TOTALS};
 use book::Halls;
 use records::Operation;
@@ -37,7 +37,7 @@ impl Deal {
 impl Cell<DEALS, TOTALS> for Deal {
     type Ask = DealAsk;
 
-    ghost game = { bridge_game };
+    ghost game = { bridge };
 
     const LAYER: u8 = LAYER;
 
@@ -54,7 +54,7 @@ impl Cell<DEALS, TOTALS> for Deal {
     }
 
     fn asked(op: Operation) -> Result<Ask<DealAsk, DEALS, TOTALS>, Fault> {
-        ask_of(op)
+        asked(op)
     }
 
     fn keys(op: Operation) -> u64 {

@@ -1,8 +1,8 @@
 -- What is left of a word's digits, and what they can still come to.
-use Rattle.std.proofs.Common.{◌≡◌, ℕ, ◌+◌, ◌-◌, ◌*◌, ◌<◌, ◌≤◌, Bool, cond, eqb, leb, List, [], ◌∷◌, length, get_or, drop, Some, None, Option, refl, ap, ◌∙◌, arith}
+use Rattle.std.proofs.Common.{◌≡◌, ℕ, ◌+◌, ◌-◌, ◌*◌, ◌<◌, ◌≤◌, Bool, cond, leb, List, [], ◌∷◌, length, get_or, drop, Some, None, Option, refl, ap, ◌∙◌, arith}
 use Rattle.std.proofs.lemmas.List.{at_drop_more, at_drop_all}
-use Rattle.std.proofs.lemmas.Bool.{cond-true, cond-false, cond_both, lt-leb, eq-eqb}
-use Rattle.entries.specs.Fields.{digit, digits_from, at_most, number, above_zero, below_zero, whole}
+use Rattle.std.proofs.lemmas.Bool.{cond-false, cond_both, lt-leb}
+use Rattle.entries.specs.Fields.{digit, digits_from, at_most, number}
 
 -- a word that is not empty, by what its digits come to
 pub number_is : (limit : ℕ) (xs : List ℕ) (o : Option ℕ) → 0 < length xs → digits_from 0 xs ≡ o → number limit xs ≡ at_most limit o
@@ -28,8 +28,3 @@ module _ (xs : List ℕ) (i n : ℕ) where
 
   pub digits_all : length xs ≤ i → digits_from n (drop i xs) ≡ Some n
   digits_all h = at_drop_all (digits_from n) xs i h
-
--- a word that begins with a minus sign
-pub whole_below : (xs : List ℕ) → 0 < length xs → get_or xs 0 0 ≡ 45 → whole xs ≡ below_zero (number 2147483648 (drop 1 xs))
-whole_below [] h t = absurd (omega arith)
-whole_below (b ∷ bs) h t = cond-true (eqb b 45) (below_zero (number 2147483648 bs)) (above_zero (number 2147483647 (b ∷ bs))) (eq-eqb b 45 t)

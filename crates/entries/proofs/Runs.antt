@@ -1,38 +1,47 @@
--- A text is its front and what is past it.
-use Rattle.std.proofs.Common.{◌≡◌, ℕ, ◌+◌, ◌<◌, ◌≤◌, Bool, true, false, cond, List, [], ◌∷◌, length, get_or, take, drop, refl, ap, ◌∙◌}
-use Rattle.std.proofs.lemmas.List.{at_drop_more, at_drop_all}
-use Rattle.entries.specs.Words.{front, past}
+-- The bytes up to the first that passes, and a text in lines.
+use Rattle.std.proofs.Common.{◌≡◌, ℕ, suc, ◌<◌, ◌≤◌, Bool, true, false, cond, ltb, not, List, [], ◌∷◌, ◌+◌, length, take, drop, Some, None, unwrap_or, refl, ap, ◌∙◌, position, arith, rules}
+use Rattle.std.proofs.lemmas.Bool.{cond_both}
+use Rattle.std.proofs.lemmas.Bool.Decides.{nat_tests}
+use Rattle.std.proofs.lemmas.List.Sums.{prefix_len-le-length}
+use Rattle.std.specs.List.{position_or_len}
+use Rattle.entries.specs.Words.{newline, line_of, rest_of, onto, lines}
 
-module _ (p : ℕ → Bool) where
-  -- a loop's step by whether the byte at i belongs, and its end
-  pub front_more : (xs : List ℕ) (i : ℕ) (t : Bool) → i < length xs → p (get_or xs i 0) ≡ t →
-      length (front p (drop i xs)) ≡ length (cond t (get_or xs i 0 ∷ front p (drop (i + 1) xs)) [])
-  front_more xs i t h e =
-      at_drop_more (λ ys. length (front p ys)) xs i 0 h
-      ∙ ap (λ b. length (cond b (get_or xs i 0 ∷ front p (drop (i + 1) xs)) [])) e
+-- the place of the first that passes, or the length where none does
+pub position_or_all : (p : ℕ → Bool) (xs : List ℕ) → unwrap_or (position p xs) (length xs) ≡ position_or_len p xs
+position_or_all p xs =
+    let n = position_or_len p xs in
+    let most : n ≤ length xs = prefix_len-le-length (λ x. not (p x)) xs in
+    cond_both (ltb n (length xs)) (Some n) None (λ o. unwrap_or o (length xs) ≡ n)
+    (λ _. refl)
+    (λ e. grind (arith, nat_tests))
 
-  pub front_all : (xs : List ℕ) (i : ℕ) → length xs ≤ i → length (front p (drop i xs)) ≡ 0
-  front_all xs i h = at_drop_all (λ ys. length (front p ys)) xs i h
+first_by : (end : Bool) (b : ℕ) (bs : List ℕ) → onto b (lines bs) ≡ (b ∷ line_of bs) ∷ lines (rest_of bs)
+    → (let n = cond (not end) (1 + position_or_len newline bs) 0 in
+    cond end ([] ∷ lines bs) (onto b (lines bs)) ≡ take n (b ∷ bs) ∷ lines (drop 1 (drop n (b ∷ bs))))
+first_by true b bs h = refl
+first_by false b bs h =
+    let n = position_or_len newline bs in
+    let next : suc n ≡ 1 + n = omega arith in
+    h ∙ ap (λ k. take k (b ∷ bs) ∷ lines (drop 1 (drop k (b ∷ bs)))) next
 
-  -- the two parts, by the length of the first
-  pub take_front : (xs : List ℕ) (n : ℕ) → n ≡ length (front p xs) → take n xs ≡ front p xs
-  take_front xs n h = ap (λ k. take k xs) h ∙ at_front xs
-    where
-      at_front : (ys : List ℕ) → take (length (front p ys)) ys ≡ front p ys
-      at_front [] = refl
-      at_front (b ∷ bs) =
-          elim (p b) as (λ t. take (length (cond t (b ∷ front p bs) [])) (b ∷ bs) ≡ cond t (b ∷ front p bs) []) [
-            | true ↦ ap (λ ys. b ∷ ys) (at_front bs)
-            | false ↦ refl
-          ]
+-- a text that is not empty is its first line and then the lines of the rest
+pub lines_first : (b : ℕ) (bs : List ℕ) → lines (b ∷ bs) ≡ line_of (b ∷ bs) ∷ lines (rest_of (b ∷ bs))
+lines_first b [] = first_by (newline b) b [] refl
+lines_first b (x ∷ xs) = first_by (newline b) b (x ∷ xs) (ap (onto b) (lines_first x xs))
 
-  pub drop_front : (xs : List ℕ) (n : ℕ) → n ≡ length (front p xs) → drop n xs ≡ past p xs
-  drop_front xs n h = ap (λ k. drop k xs) h ∙ at_front xs
-    where
-      at_front : (ys : List ℕ) → drop (length (front p ys)) ys ≡ past p ys
-      at_front [] = refl
-      at_front (b ∷ bs) =
-          elim (p b) as (λ t. drop (length (cond t (b ∷ front p bs) [])) (b ∷ bs) ≡ cond t (past p bs) (b ∷ bs)) [
-            | true ↦ at_front bs
-            | false ↦ refl
-          ]
+pub lines_cut : (text : List ℕ) → 0 < length text → lines text ≡ line_of text ∷ lines (rest_of text)
+lines_cut [] h = absurd (omega arith)
+lines_cut (b ∷ bs) h = lines_first b bs
+
+-- a text has no more lines than bytes
+pub lines_few : (text : List ℕ) → length (lines text) ≤ length text
+lines_few [] = search rules
+lines_few (b ∷ bs) =
+    let few = lines_few bs in
+    cond_both (newline b) ([] ∷ lines bs) (onto b (lines bs)) (λ ls. length ls ≤ suc (length bs))
+    (λ _. omega arith)
+    (λ _. onto_few b (lines bs) few)
+  where
+    onto_few : (x : ℕ) (ls : List (List ℕ)) → length ls ≤ length bs → length (onto x ls) ≤ suc (length bs)
+    onto_few x [] h = omega arith
+    onto_few x (l ∷ ls) h = omega arith

@@ -44,7 +44,7 @@ given zs i = slice_index_or zs i (pos 0)
 
 -- the operation of an entry bears the grant and the token that the last `as` said
 abbrev pub operation : Progress → ℕ → ℤ → ℤ → ℤ → ℤ → Operation
-operation at kind a b c d = record { kind = kind; grant = at.grant; token = at.token; a = unsigned_abs a; b = unsigned_abs b; c = c; d = unsigned_abs d }
+operation at kind a b c d = record { kind = kind; grant = at.bearer.grant; token = at.bearer.token; a = unsigned_abs a; b = unsigned_abs b; c = c; d = unsigned_abs d }
 
 -- the first word of an entry
 abbrev pub entry : List ℕ → Option Command
@@ -124,7 +124,7 @@ game_line rest =
     ]
 
 abbrev pub as_line : List ℕ → Result Reading Misread
-as_line rest = and_then (fields (Field.Byte ∷ Field.Token ∷ []) 2 rest) (λ zs. Ok (Reading.As (unsigned_abs (given zs 0)) (unsigned_abs (given zs 1))))
+as_line rest = and_then (fields (Field.Byte ∷ Field.Token ∷ []) 2 rest) (λ zs. Ok (Reading.As (record { grant = unsigned_abs (given zs 0); token = unsigned_abs (given zs 1) })))
 
 -- headings come before the first entry
 abbrev pub heading : Progress → Result Reading Misread → Result Reading Misread
@@ -138,15 +138,13 @@ line_says at (Some Opening.Chief) rest = heading at (chief_line rest)
 line_says at (Some Opening.As) rest = as_line rest
 line_says at (Some (Opening.Entry c)) rest = entry_line at c rest
 
-abbrev pub read_as : Result Reading Misread → Reading
-read_as (Ok r) = r
-read_as (Err m) = Reading.Unreadable m
-
 -- no word, or one that begins with #
 abbrev pub passed_over : List ℕ → Bool
 passed_over [] = true
 passed_over (b ∷ bs) = b == 35
 
--- a line after those that came to this progress
-abbrev pub reading : List ℕ → Progress → Reading
-reading line at = cond (passed_over (first_word line)) Reading.Nothing (read_as (line_says at (opening (first_word line)) (past_word line)))
+-- a line after those that came to this progress; `None` where it says nothing
+abbrev pub reading : List ℕ → Progress → Result (Option Reading) Misread
+reading line at =
+    cond (passed_over (first_word line)) (Ok None)
+    (and_then (line_says at (opening (first_word line)) (past_word line)) (λ r. Ok (Some r)))

@@ -1,32 +1,16 @@
 // What a word of a line stands for.
-ghost use Rattle.std.specs.Prelude.{◌≡◌, ◌≤◌, [], pos, IfSome, Ok};
-ghost use Rattle.std.specs.Str.{bytes_eq};
-ghost use Rattle.entries.specs.Fields.{number, whole, result_of, game};
+ghost use Rattle.std.specs.Prelude.{◌≡◌, ◌+◌, ◌<◌, ◌≤◌, ℤ, List, ℕ, [], pos, option_map, IfSome, Ok};
+ghost use Rattle.entries.specs.Fields.{number, whole, result_of, result_number, game, value};
 ghost use Rattle.entries.specs.Reading.{misread, and_then, field, ended};
-ghost use Rattle.entries.specs.declared.Field.TheVariants.{Byte, Number, Count, Token, Whole, Score};
+ghost use Rattle.entries.specs.Words.{first_word, past_word};
+ghost use Rattle.entries.specs.declared.Field.{Field};
+ghost use Rattle.entries.specs.declared.Field.TheVariants as Field;
 
-use crate::words::Word;
-use crate::{Expected, Field, Game, Misread};
-
-// The largest number of each field.
-const BYTE: u32 = 255;
-
-const NUMBER: u32 = 65535;
-
-const COUNT: u32 = 2147483647;
-
-const TOKEN: u32 = u32::MAX;
-
-const WHOLE: u32 = 2147483647;
+use crate::words::{Word, Words};
+use crate::{Expected, Field, Game, Misread, Score};
 
 // How far below zero a whole number goes.
 const WHOLE_BELOW_ZERO: u32 = 2147483648;
-
-const WHITE_WON: i32 = 1;
-
-const DRAWN: i32 = 2;
-
-const BLACK_WON: i32 = 3;
 
 // The number that the digits of a word stand for, where it is at most `limit`. Past the limit no digit brings a value
 // back, so the loop stops there, long before an overflow.
@@ -55,48 +39,128 @@ fn whole_number(word: &[u8]) -> Option<i32>
     ensures { result ≡ whole word.now }
 {
     match word {
-        [b'-', digits @ ..] => match number_to(WHOLE_BELOW_ZERO, digits) {
-            Some(n) => Some(-(n as i64) as i32),
-            None => None,
-        },
-        _ => match number_to(WHOLE, word) {
-            Some(n) => Some(n as i32),
-            None => None,
-        },
+        [b'-', digits @ ..] => {
+            let n = number_to(WHOLE_BELOW_ZERO, digits)?;
+            Some(-i64::from(n) as i32)
+        }
+        _ => Some(number_to(i32::MAX as u32, word)? as i32),
     }
 }
 
-// Whether a word is this text.
-pub fn spells(word: &[u8], text: &[u8]) -> bool
-    ensures { result ≡ bytes_eq word.now text.now }
-{
-    word == text
+// A type of the values that a word can stand for.
+pub trait Value: Sized {
+    // Which field the word is, and the number that a value stands for.
+    ghost field: { Field };
+
+    ghost number: { Self → ℤ };
+
+    fn field() -> Field
+        ensures { result ≡ field };
+
+    fn of(word: &[u8]) -> Option<Self>
+        ensures { option_map number result ≡ value field word.now };
 }
 
-// The result that a word stands for: 1, 2 or 3.
-fn result_of(word: &[u8]) -> Option<i32>
-    ensures { result ≡ result_of word.now }
-{
-    if spells(word, b"1-0") {
-        Some(WHITE_WON)
-    } else if spells(word, b"1/2") {
-        Some(DRAWN)
-    } else if spells(word, b"0-1") {
-        Some(BLACK_WON)
-    } else {
-        None
+impl Value for u8 {
+    ghost field = { Field.Byte };
+
+    ghost number = { pos };
+
+    fn field() -> Field {
+        Field::Byte
+    }
+
+    fn of(word: &[u8]) -> Option<u8> {
+        Some(number_to(u32::from(u8::MAX), word)? as u8)
+    }
+}
+
+impl Value for u16 {
+    ghost field = { Field.Number };
+
+    ghost number = { pos };
+
+    fn field() -> Field {
+        Field::Number
+    }
+
+    fn of(word: &[u8]) -> Option<u16> {
+        Some(number_to(u32::from(u16::MAX), word)? as u16)
+    }
+}
+
+impl Value for u32 {
+    ghost field = { Field.Token };
+
+    ghost number = { pos };
+
+    fn field() -> Field {
+        Field::Token
+    }
+
+    fn of(word: &[u8]) -> Option<u32> {
+        number_to(u32::MAX, word)
+    }
+}
+
+impl Value for i32 {
+    ghost field = { Field.Whole };
+
+    ghost number = { λ z. z };
+
+    fn field() -> Field {
+        Field::Whole
+    }
+
+    fn of(word: &[u8]) -> Option<i32> {
+        whole_number(word)
+    }
+}
+
+// A number from 0 on.
+#[derive(Clone, Copy)]
+pub struct Count(pub i32);
+
+impl Value for Count {
+    ghost field = { Field.Count };
+
+    ghost number = { λ count. count.0 };
+
+    fn field() -> Field {
+        Field::Count
+    }
+
+    fn of(word: &[u8]) -> Option<Count> {
+        Some(Count(number_to(i32::MAX as u32, word)? as i32))
+    }
+}
+
+impl Value for Score {
+    ghost field = { Field.Score };
+
+    ghost number = { λ score. pos (result_number score) };
+
+    fn field() -> Field {
+        Field::Score
+    }
+
+    fn of(word: &[u8]) -> Option<Score> {
+        match word {
+            b"1-0" => Some(Score::WhiteWon),
+            b"1/2" => Some(Score::Drawn),
+            b"0-1" => Some(Score::BlackWon),
+            _ => None,
+        }
     }
 }
 
 pub fn game_of(word: &[u8]) -> Option<Game>
     ensures { result ≡ game word.now }
 {
-    if spells(word, b"chess") {
-        Some(Game::Chess)
-    } else if spells(word, b"bridge") {
-        Some(Game::Bridge)
-    } else {
-        None
+    match word {
+        b"chess" => Some(Game::Chess),
+        b"bridge" => Some(Game::Bridge),
+        _ => None,
     }
 }
 
@@ -110,69 +174,33 @@ impl Word<'_> {
             expected,
         }
     }
+}
 
-    pub fn byte(self) -> Result<u8, Misread>
-        ensures { and_then result (λ n. Ok (pos n)) ≡ field Byte self.entry.place self.entry.text.now }
+impl Words<'_> {
+    // The next word as a field.
+    pub fn field<T: Value>(&mut self) -> Result<T, Misread>
+        requires { self.old.place < 255 }
+        ensures value { and_then result (λ v. Ok (T.number v)) ≡ field T.field self.old.place (first_word self.old.rest.now) }
+        ensures rest { self.new.rest.now ≡ past_word self.old.rest.now }
+        ensures further { self.new.place ≡ self.old.place + 1 }
     {
-        match number_to(BYTE, self.text) {
-            Some(n) => Ok(n as u8),
-            None => Err(self.misread(Expected::Value(Field::Byte))),
+        let word = self.next();
+        match T::of(word.text) {
+            Some(value) => Ok(value),
+            None => Err(word.misread(Expected::Value(T::field()))),
         }
     }
 
-    pub fn number(self) -> Result<u16, Misread>
-        ensures { and_then result (λ n. Ok (pos n)) ≡ field Number self.entry.place self.entry.text.now }
+    // No word is left.
+    pub fn end(mut self) -> Result<(), Misread>
+        requires { self.place < 255 }
+        ensures { and_then result (λ _. Ok []) ≡ ended self.entry.place (first_word self.entry.rest.now) }
     {
-        match number_to(NUMBER, self.text) {
-            Some(n) => Ok(n as u16),
-            None => Err(self.misread(Expected::Value(Field::Number))),
-        }
-    }
-
-    pub fn count(self) -> Result<i32, Misread>
-        ensures { result ≡ field Count self.entry.place self.entry.text.now }
-    {
-        match number_to(COUNT, self.text) {
-            Some(n) => Ok(n as i32),
-            None => Err(self.misread(Expected::Value(Field::Count))),
-        }
-    }
-
-    pub fn token(self) -> Result<u32, Misread>
-        ensures { and_then result (λ n. Ok (pos n)) ≡ field Token self.entry.place self.entry.text.now }
-    {
-        match number_to(TOKEN, self.text) {
-            Some(n) => Ok(n),
-            None => Err(self.misread(Expected::Value(Field::Token))),
-        }
-    }
-
-    pub fn whole(self) -> Result<i32, Misread>
-        ensures { result ≡ field Whole self.entry.place self.entry.text.now }
-    {
-        match whole_number(self.text) {
-            Some(z) => Ok(z),
-            None => Err(self.misread(Expected::Value(Field::Whole))),
-        }
-    }
-
-    pub fn score(self) -> Result<i32, Misread>
-        ensures { result ≡ field Score self.entry.place self.entry.text.now }
-    {
-        match result_of(self.text) {
-            Some(z) => Ok(z),
-            None => Err(self.misread(Expected::Value(Field::Score))),
-        }
-    }
-
-    // The place after the last word, where there is no other.
-    pub fn end(self) -> Result<(), Misread>
-        ensures { and_then result (λ _. Ok []) ≡ ended self.entry.place self.entry.text.now }
-    {
-        if self.text.is_empty() {
+        let word = self.next();
+        if word.text.is_empty() {
             Ok(())
         } else {
-            Err(self.misread(Expected::End))
+            Err(word.misread(Expected::End))
         }
     }
 }

@@ -2,7 +2,8 @@
 #![tactic(auto)]
 
 ghost use Rattle.std.specs.Prelude.{◌≡◌};
-ghost use Rattle.entries.specs.Reading.{passed_over, reading};
+ghost use Rattle.entries.specs.Fields.{Scores};
+ghost use Rattle.entries.specs.Reading.{reading};
 
 mod commands;
 mod fields;
@@ -11,18 +12,37 @@ mod words;
 use commands::line_after;
 pub use commands::{close_kind, total_kind};
 use records::Operation;
+use std::error::Error;
+use std::fmt;
+pub use words::Lines;
 use words::Words;
-pub use words::{Cut, first_line};
 
 // The game of a sheet.
-#[derive(Clone, Copy)]
+#[derive(Clone, Copy, Debug, Default, PartialEq, Eq, Hash)]
 pub enum Game {
+    #[default]
     Chess,
     Bridge,
 }
 
+impl fmt::Display for Game {
+    fn fmt<W: fmt::Write>(&self, f: &mut fmt::Formatter<W>) -> fmt::Result {
+        f.write_str(match self {
+            Game::Chess => "Chess",
+            Game::Bridge => "Bridge",
+        })
+    }
+}
+
+// By whom an entry is made: a grant, 0 for the chief, and its token.
+#[derive(Clone, Copy, Debug, Default, PartialEq, Eq, Hash)]
+pub struct Bearer {
+    pub grant: u8,
+    pub token: u32,
+}
+
 // What the lines so far have said of the sheet, and of the entries to come.
-#[derive(Clone, Copy)]
+#[derive(Clone, Copy, Debug, Default, PartialEq, Eq, Hash)]
 pub struct Progress {
     pub hall: u8,
     pub game: Game,
@@ -30,82 +50,129 @@ pub struct Progress {
     pub chief: Option<u32>,
     // an entry was read
     pub begun: bool,
-    pub grant: u8,
-    pub token: u32,
+    pub bearer: Bearer,
+}
+
+// The result of a game of chess.
+#[derive(Clone, Copy, Debug, PartialEq, Eq, Hash)]
+pub enum Score {
+    WhiteWon = 1,
+    Drawn = 2,
+    BlackWon = 3,
+}
+
+// A number that stands for no result.
+#[derive(Clone, Copy, Debug, PartialEq, Eq, Hash)]
+pub struct UnknownScore(pub i32);
+
+impl TryFrom<i32> for Score {
+    type Error = UnknownScore;
+
+    ghost try_from_gives = { Scores };
+
+    fn try_from(number: i32) -> Result<Self, UnknownScore> {
+        match number {
+            1 => Ok(Score::WhiteWon),
+            2 => Ok(Score::Drawn),
+            3 => Ok(Score::BlackWon),
+            _ => Err(UnknownScore(number)),
+        }
+    }
+}
+
+// As a line writes it.
+impl fmt::Display for Score {
+    fn fmt<W: fmt::Write>(&self, f: &mut fmt::Formatter<W>) -> fmt::Result {
+        f.write_str(match self {
+            Score::WhiteWon => "1-0",
+            Score::Drawn => "1/2",
+            Score::BlackWon => "0-1",
+        })
+    }
 }
 
 // What a word after the first is to be.
-#[derive(Clone, Copy)]
+#[derive(Clone, Copy, Debug, PartialEq, Eq, Hash)]
 pub enum Field {
-    // a number from 0 to 255
     Byte,
-    // a number from 0 to 65535
     Number,
-    // a number from 0 to 2147483647
     Count,
-    // a number from 0 to 4294967295
     Token,
-    // a number from -2147483648 to 2147483647
     Whole,
-    // 1-0, 1/2 or 0-1, for the results 1, 2 and 3
     Score,
 }
 
+impl fmt::Display for Field {
+    fn fmt<W: fmt::Write>(&self, f: &mut fmt::Formatter<W>) -> fmt::Result {
+        f.write_str(match self {
+            Field::Byte => "a number from 0 to 255",
+            Field::Number => "a number from 0 to 65535",
+            Field::Count => "a number from 0 to 2147483647",
+            Field::Token => "a number from 0 to 4294967295",
+            Field::Whole => "a number from -2147483648 to 2147483647",
+            Field::Score => "1-0, 1/2 or 0-1",
+        })
+    }
+}
+
 // What was expected where a word is at fault.
-#[derive(Clone, Copy)]
+#[derive(Clone, Copy, Debug, PartialEq, Eq, Hash)]
 pub enum Expected {
-    // hall, game, chief, as or an entry
     Opening,
-    // an entry or as, since headings come first
     Entry,
-    // chess or bridge
     Game,
     Value(Field),
-    // the end of the line
     End,
 }
 
+impl fmt::Display for Expected {
+    fn fmt<W: fmt::Write>(&self, f: &mut fmt::Formatter<W>) -> fmt::Result {
+        match self {
+            Expected::Opening => f.write_str("hall, game, chief, as or an entry"),
+            Expected::Entry => f.write_str("an entry or as, since headings come first"),
+            Expected::Game => f.write_str("chess or bridge"),
+            Expected::Value(field) => write!(f, "{field}"),
+            Expected::End => f.write_str("the end of the line"),
+        }
+    }
+}
+
 // The leftmost word at fault, by its place in the line, counted from 1.
-#[derive(Clone, Copy)]
+#[derive(Clone, Copy, Debug, PartialEq, Eq, Hash)]
 pub struct Misread {
     pub word: u8,
     pub expected: Expected,
 }
 
-// What a line says.
-#[derive(Clone, Copy)]
+impl fmt::Display for Misread {
+    fn fmt<W: fmt::Write>(&self, f: &mut fmt::Formatter<W>) -> fmt::Result {
+        let Misread { word, expected } = *self;
+        write!(f, "word {word}: expected {expected}")
+    }
+}
+
+impl Error for Misread {}
+
+// What a line says of the sheet or of the entries to come, or the entry that it makes.
+#[derive(Clone, Copy, Debug, PartialEq, Eq, Hash)]
 pub enum Reading {
-    Nothing,
     Hall(u8),
     Game(Game),
     Chief(u32),
-    // grant and token of the entries from here on
-    As(u8, u32),
+    // who makes the entries from here on
+    As(Bearer),
     Entry(Operation),
-    Unreadable(Misread),
 }
 
-// What a line says after those that came to this progress.
-pub fn read_line(line: &[u8], at: Progress) -> Reading
+// What a line says after those that came to this progress. A line without a word, or whose first word begins with `#`,
+// says nothing.
+pub fn read_line(line: &[u8], at: Progress) -> Result<Option<Reading>, Misread>
     ensures { result ≡ reading line.now at }
 {
     let mut words = Words::of(line);
     let first = words.next();
-    if is_passed_over(first.text) {
-        return Reading::Nothing;
-    }
-    match line_after(first, words, at) {
-        Ok(reading) => reading,
-        Err(misread) => Reading::Unreadable(misread),
-    }
-}
-
-// Whether a line with this first word is passed over: there is no word, or it begins with `#`.
-fn is_passed_over(first: &[u8]) -> bool
-    ensures { result ≡ passed_over first.now }
-{
-    match first {
-        [] => true,
-        [byte, ..] => *byte == b'#',
+    match first.text {
+        [] | [b'#', ..] => Ok(None),
+        _ => Ok(Some(line_after(first.text, words.rest, at)?)),
     }
 }

@@ -1,67 +1,58 @@
 // A text cut into lines, and a line into words.
-ghost use Rattle.std.specs.Prelude.{◌≡◌, ◌+◌, ◌<◌, ◌≤◌, length, take, drop};
-ghost use Rattle.entries.specs.Words.{blank, belongs, front, past, line_of, rest_of, first_word, past_word};
+ghost use Rattle.std.specs.Prelude.{◌≡◌, ℕ, Bool, ◌+◌, ◌<◌, ◌≤◌, length};
+ghost use Rattle.std.specs.List.{position_or_len};
+ghost use Rattle.std.specs.Iterator.{YieldsFirstBy, item_count};
+ghost use Rattle.entries.specs.Words.{blank, line_of, rest_of, lines, first_word, past_word};
 
-// Bytes in a row: blanks, those of a word, or those of a line.
+// How many bytes stand before the first at which `ends` answers true.
+fn length_until<F: Fn(u8) -> bool>(text: &[u8], ends: F) -> usize
+    requires { F.IsAlwaysCallable ends }
+    ensures place { (p : ℕ → Bool) → ((b : ℕ) (r : Bool) → F.post ends b r → r ≡ p b) → result ≡ position_or_len p text.now }
+    ensures within { result ≤ length text.now }
+{
+    text.iter()
+        .position(|byte| ends(*byte))
+        .unwrap_or(text.len())
+}
+
+// The first line of a text, and what follows it.
+fn first_line<'a>(text: &'a [u8]) -> (&'a [u8], &'a [u8])
+    ensures line { result.0.now ≡ line_of text.now }
+    ensures rest { result.1.now ≡ rest_of text.now }
+{
+    let (line, rest) = text.split_at(length_until(text, |byte| byte == b'\n'));
+    match rest {
+        [] => (line, rest),
+        [_, after @ ..] => (line, after),
+    }
+}
+
+// The lines of a text that are still to come.
 #[derive(Clone, Copy)]
-pub enum Run {
-    Blanks,
-    Word,
-    Line,
+pub struct Lines<'a>(pub &'a [u8]);
+
+impl<'a> Iterator for Lines<'a> {
+    type Item = &'a [u8];
+
+    ghost next_gives = { YieldsFirstBy (λ line. line.now) (λ s. lines s.0.now) };
+
+    ghost remaining = { item_count (λ s. lines s.0.now) };
+
+    #[tactic(auto, using(crate::proofs::Runs::lines_cut))]
+    fn next(&mut self) -> Option<&'a [u8]> {
+        if self.0.is_empty() {
+            return None;
+        }
+        let (line, rest) = first_line(self.0);
+        self.0 = rest;
+        Some(line)
+    }
 }
 
 fn is_blank(byte: u8) -> bool
     ensures { result ≡ blank byte }
 {
     byte == b' ' || byte == b'\t' || byte == b'\r'
-}
-
-fn belongs_to(byte: u8, run: Run) -> bool
-    ensures { result ≡ belongs run byte }
-{
-    match run {
-        Run::Blanks => is_blank(byte),
-        Run::Word => !is_blank(byte),
-        Run::Line => byte != b'\n',
-    }
-}
-
-// How many bytes at the front of a text belong to the run.
-fn length_of_run(text: &[u8], run: Run) -> usize
-    ensures front { take result text.now ≡ front (belongs run) text.now }
-    ensures past { drop result text.now ≡ past (belongs run) text.now }
-    ensures within { result ≤ length text.now }
-{
-    for (i, byte) in text.iter().enumerate() {
-        if !belongs_to(*byte, run) {
-            return i;
-        }
-    }
-    text.len()
-}
-
-// The first line of a text, and what follows it.
-#[derive(Clone, Copy)]
-pub struct Cut<'a> {
-    pub line: &'a [u8],
-    pub rest: &'a [u8],
-}
-
-pub fn first_line<'a>(text: &'a [u8]) -> Cut<'a>
-    ensures line { result.line.now ≡ line_of text.now }
-    ensures rest { result.rest.now ≡ rest_of text.now }
-    ensures shorter { 0 < length text.now → length result.rest.now < length text.now }
-{
-    let n = length_of_run(text, Run::Line);
-    let line = &text[0..n];
-    if n < text.len() {
-        Cut {
-            line,
-            rest: &text[n + 1..],
-        }
-    } else {
-        Cut { line, rest: &[] }
-    }
 }
 
 // A word of a line, empty where there is none, and its place in the line.
@@ -89,6 +80,14 @@ impl<'a> Words<'a> {
         }
     }
 
+    // The words after the first.
+    pub fn after_first(rest: &'a [u8]) -> Words<'a>
+        ensures rest { result.rest.now ≡ rest.now }
+        ensures place { result.place ≡ 2 }
+    {
+        Words { rest, place: 2 }
+    }
+
     pub fn next(&mut self) -> Word<'a>
         requires { self.old.place < 255 }
         ensures word { result.text.now ≡ first_word self.old.rest.now }
@@ -96,15 +95,13 @@ impl<'a> Words<'a> {
         ensures rest { self.new.rest.now ≡ past_word self.old.rest.now }
         ensures further { self.new.place ≡ self.old.place + 1 }
     {
-        let start = length_of_run(self.rest, Run::Blanks);
-        let from = &self.rest[start..];
-        let end = length_of_run(from, Run::Word);
+        let (_, from) = self
+            .rest
+            .split_at(length_until(self.rest, |byte| !is_blank(byte)));
+        let (text, rest) = from.split_at(length_until(from, is_blank));
         let place = self.place;
-        self.rest = &from[end..];
+        self.rest = rest;
         self.place += 1;
-        Word {
-            text: &from[0..end],
-            place,
-        }
+        Word { text, place }
     }
 }

@@ -4,5 +4,5 @@
 mod running;
 mod standings;
 
-pub use running::{Event, LogEntry, Scored, headings_of, score};
+pub use running::{Answered, LogEntry, Scored, headings_of, score};
 pub use standings::{Standing, next_round, place_of, standings_of};

@@ -1,63 +1,83 @@
 // The lines of a sheet, run through a book one after another.
-ghost use Rattle.std.specs.Prelude.{◌≡◌, true, ◌++◌, is_ok, IfOk, OnOk};
-ghost use Rattle.scoring.specs.Running.{start, progress_by, event_of, progress_after, pages_after, noted, headings, sheet};
+ghost use Rattle.std.specs.Prelude.{◌≡◌, true, ◌++◌, Some, Ok, is_ok, IfOk, OnOk};
+ghost use Rattle.scoring.specs.Running.{start, progress_by, event_of, progress_after as after_line, pages_after, noted, headings, sheet};
 
 use book::Book;
-use entries::{Game, Misread, Progress, Reading, first_line, read_line};
+use entries::{Lines, Misread, Progress, Reading, read_line};
 use records::{Answer, Operation};
 use std::alloc::{AllocError, Global};
 
-// What came of a line that says something.
-#[derive(Clone, Copy)]
-pub enum Event {
-    Answered(Operation, Answer),
-    Unreadable(Misread),
+// An operation, and what the book said to it.
+#[derive(Clone, Copy, Debug, PartialEq, Eq, Hash)]
+pub struct Answered {
+    pub operation: Operation,
+    pub answer: Answer,
 }
 
-// An event with the number of its line.
-#[derive(Clone, Copy)]
+// What came of a line that says something, with the line's number.
+#[derive(Clone, Copy, Debug, PartialEq, Eq, Hash)]
 pub struct LogEntry {
     pub line: usize,
-    pub event: Event,
+    pub event: Result<Answered, Misread>,
 }
 
 // What a line says of the sheet, and of the entries to come.
-fn note_heading(at: &mut Progress, reading: Reading)
-    ensures { at.new ≡ progress_by at.old reading }
+fn with_reading(at: Progress, reading: Reading) -> Progress
+    ensures { result ≡ progress_by at (Ok (Some reading)) }
 {
     match reading {
-        Reading::Hall(hall) => at.hall = hall,
-        Reading::Game(game) => at.game = game,
-        Reading::Chief(token) => at.chief = Some(token),
-        Reading::As(grant, token) => {
-            at.grant = grant;
-            at.token = token;
-        }
-        Reading::Entry(_) => at.begun = true,
-        Reading::Nothing | Reading::Unreadable(_) => {}
+        Reading::Hall(hall) => Progress { hall, ..at },
+        Reading::Game(game) => Progress { game, ..at },
+        Reading::Chief(token) => Progress {
+            chief: Some(token),
+            ..at
+        },
+        Reading::As(bearer) => Progress { bearer, ..at },
+        Reading::Entry(_) => Progress { begun: true, ..at },
+    }
+}
+
+fn progress_after(at: Progress, line: &[u8]) -> Progress
+    ensures { result ≡ after_line at line.now }
+{
+    match read_line(line, at) {
+        Ok(Some(reading)) => with_reading(at, reading),
+        _ => at,
     }
 }
 
 // Does what one line says.
-fn take_line<B: Book>(book: &mut B, at: &mut Progress, line: &[u8]) -> Option<Event>
+fn take_line<B: Book>(
+    book: &mut B,
+    at: &mut Progress,
+    line: &[u8],
+) -> Result<Option<Answered>, Misread>
     ensures event { result ≡ event_of B.model (B.pages book.old) at.old line.now }
-    ensures progress { at.new ≡ progress_after at.old line.now }
+    ensures progress { at.new ≡ after_line at.old line.now }
     ensures pages { B.pages book.new ≡ pages_after B.model (B.pages book.old) at.old line.now }
 {
-    let reading = read_line(line, *at);
-    note_heading(at, reading);
+    let Some(reading) = read_line(line, *at)? else {
+        return Ok(None);
+    };
+    *at = with_reading(*at, reading);
     match reading {
-        Reading::Entry(operation) => Some(Event::Answered(operation, book.run(at.hall, operation))),
-        Reading::Unreadable(misread) => Some(Event::Unreadable(misread)),
-        _ => None,
+        Reading::Entry(operation) => {
+            let answer = book.run(at.hall, operation);
+            Ok(Some(Answered { operation, answer }))
+        }
+        _ => Ok(None),
     }
 }
 
 // Notes what came of a line, if anything did.
-fn note(log: &mut Vec<LogEntry>, line: usize, event: Option<Event>) -> Result<(), AllocError>
-    ensures { OnOk result (log.new.items ≡ log.old.items ++ noted line event) }
+fn note(
+    log: &mut Vec<LogEntry>,
+    line: usize,
+    came: Result<Option<Answered>, Misread>,
+) -> Result<(), AllocError>
+    ensures { OnOk result (log.new.items ≡ log.old.items ++ noted line came) }
 {
-    if let Some(event) = event {
+    if let Some(event) = came.transpose() {
         log.push(LogEntry { line, event })?;
     }
     Ok(())
@@ -73,29 +93,14 @@ pub struct Scored {
 fn start_of_sheet() -> Progress
     ensures { result ≡ start }
 {
-    Progress {
-        hall: 0,
-        game: Game::Chess,
-        chief: None,
-        begun: false,
-        grant: 0,
-        token: 0,
-    }
+    Progress::default()
 }
 
 // What all the lines of a text have said of its sheet.
 pub fn headings_of(text: &[u8]) -> Progress
     ensures { result ≡ headings text.now }
 {
-    let mut at = start_of_sheet();
-    let mut rest = text;
-    while !rest.is_empty() {
-        let cut = first_line(rest);
-        let reading = read_line(cut.line, at);
-        note_heading(&mut at, reading);
-        rest = cut.rest;
-    }
-    at
+    Lines(text).fold(start_of_sheet(), |at, line| progress_after(at, line))
 }
 
 // Runs a sheet, line after line, through a book.
@@ -105,14 +110,9 @@ pub fn score<B: Book>(heap: Global, book: &mut B, text: &[u8]) -> Result<Scored,
 {
     let mut log = Vec::new(heap);
     let mut at = start_of_sheet();
-    let mut count = 0usize;
-    let mut rest = text;
-    while !rest.is_empty() {
-        let cut = first_line(rest);
-        count += 1;
-        let event = take_line(book, &mut at, cut.line);
-        note(&mut log, count, event)?;
-        rest = cut.rest;
+    for (before, line) in Lines(text).enumerate() {
+        let came = take_line(book, &mut at, line);
+        note(&mut log, before + 1, came)?;
     }
     Ok(Scored { at, log })
 }

@@ -1,19 +1,15 @@
-use Rattle.std.proofs.Common.{◌≡◌, ◌<◌, length, fold, sym, ap, ◌∙◌, ap₂, rules}
-use Rattle.entries.specs.Words.{line_of}
-use Rattle.scoring.proofs.Turns.{first_heading, no_heading_left}
+use Rattle.std.proofs.Common.{fold, ap, ◌∙◌, rules}
+use Rattle.std.specs.Iterator.{YieldsFirstBy}
+use Rattle.std.proofs.lemmas.Iterator.Consumers.{YieldsList-from_first, fold_from_yields_List}
+use Rattle.entries.specs.Words.{lines}
+use Rattle.scoring.specs.Running.{progress_after}
 use Rattle.scoring.proofs.running.headings_of.Goals as goal
-use Rattle.scoring.specs.Running.{lines, progress_by, progress_after}
-
-pub loop-rest-preserved : goal.loop-rest-preserved
-loop-rest-preserved c =
-    let at = c.loop-rest.at in
-    let text = c.loop-rest.rest.now in
-    let some : 0 < length text = search rules in
-    let new : c.note_heading.new.at ≡ progress_after at (line_of text) =
-    c.note_heading.ensures ∙ ap (progress_by at) c.read_line-reading.ensures ∙ ap (progress_after at) c.first_line-cut.ensures.line in
-    ap₂ (λ x later. fold progress_after x (lines later)) new c.first_line-cut.ensures.rest ∙ sym (first_heading at text some) ∙ c.loop-rest.invariant
 
 pub returns : goal.returns
 returns c =
-    let none : length c.loop-rest.rest.now ≡ 0 = search rules in
-    sym (no_heading_left c.loop-rest.at c.loop-rest.rest.now none) ∙ c.loop-rest.invariant
+    let text = c.args.text.now in
+    fold_from_yields_List {steps = YieldsFirstBy (λ line. line.now) (λ s. lines s.0.now)} {s = record { 0 = c.args.text }}
+    _ progress_after c.start_of_sheet.result c.fold.result c.fold.ensures.ran
+    (YieldsList-from_first (λ line. line.now) (λ s. lines s.0.now) (lines text) (search rules))
+    (λ a x b q k. search rules)
+    ∙ ap (λ at. fold progress_after at (lines text)) c.start_of_sheet.ensures

@@ -1,13 +1,15 @@
-use Rattle.std.proofs.Common.{◌≡◌, ◌+◌, ◌≤◌, length, vec_items}
+use Rattle.std.proofs.Common.{◌≡◌, vec_items}
+use Rattle.std.specs.Iterator.Adapters.{enumerate_source, enumerate_count}
+use Rattle.entries.specs.Words.{lines}
 use Rattle.scoring.proofs.running.score.Given as goal
-use Rattle.scoring.specs.Running.{lines, scored, sheet}
+use Rattle.scoring.specs.Running.{scored, sheet}
 
--- the rest, scored from where the loop stands, is the whole sheet scored
-abbrev pub invariant-loop-rest : goal.invariant-loop-rest
-invariant-loop-rest g l =
-    (scored g.B.Book.model (record { pages = g.B.Book.pages l.book; at = l.at; count = l.count; log = vec_items l.log }) (lines l.rest)
+-- the lines that are left, scored from where the loop stands, are the whole sheet scored
+abbrev pub invariant-loop-before : goal.invariant-loop-before
+invariant-loop-before g l =
+    let left = lines (enumerate_source l.before-iterator).0.now in
+    let count = enumerate_count l.before-iterator in
+    (scored g.B.Book.model (record { pages = g.B.Book.pages l.book; at = l.at; count = count; log = vec_items l.log }) left
     ≡ sheet g.B.Book.model (g.B.Book.pages l.initial.book) l.text)
-    × (l.count + length l.rest ≤ length l.text)
-
-abbrev pub decreases-loop-rest : goal.decreases-loop-rest
-decreases-loop-rest g l = length l.rest
+    × (goal.iterator-loop-before g).can_next l.before-iterator
+    × (goal.iterator-loop-before g).is_finite l.before-iterator

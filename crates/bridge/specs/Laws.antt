@@ -6,7 +6,7 @@ use Rattle.book.proofs.Keys.{Held, held_one, held_below}
 use Rattle.book.specs.Model.{Page}
 use Rattle.book.specs.Numbers.{at}
 use Rattle.bridge.specs.Asking.{fair, asked_score, asked_line, asked, keys, Ask}
-use Rattle.bridge.specs.Page.{line_numbers, deal_numbers, line_from, read_line, read_deal, sized, bridge_game}
+use Rattle.bridge.specs.Page.{line_numbers, deal_numbers, line_from, read_line, read_deal, sized, bridge}
 use Rattle.bridge.specs.Points.{Line, line, has_pair, won, against, points_from, points, east_west_at, east_west, deal_points}
 use Rattle.bridge.specs.Rules.{changed}
 use Rattle.bridge.specs.declared.asking.DealAsk.{DealAsk}
@@ -119,7 +119,7 @@ sized_changed : (d : Deal) (ask : DealAsk) → sized d ≡ true → sized (chang
 sized_changed d (Score b x) h = ap (λ n. n == 8) (length-set d.lines b (Some x)) ∙ h
 sized_changed d (Read b) h = h
 
-pub bridge_fits : Fits 2 bridge_game
+pub bridge_fits : Fits 2 bridge
 bridge_fits = record {
   named = refl;
   covers = covers;
