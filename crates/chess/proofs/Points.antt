@@ -17,6 +17,7 @@ use Rattle.chess.specs.declared.sheet.Outcome.{Outcome}
 use Rattle.chess.specs.declared.sheet.Outcome.TheVariants.{White, Draw, Black}
 use Rattle.records.specs.Answers.{well_done}
 use Rattle.records.specs.declared.Operation.{Operation}
+use Rattle.rounds.proofs.Stay.{Closes, totals_stay}
 use Rattle.rounds.specs.Faults.{answered}
 use Rattle.rounds.specs.Kept.{Sized}
 use Rattle.rounds.specs.Sheets.{cell, used_at, settled_at, closable, gain_at, gained, closed, says, changed, said, left, made, answer, after}
@@ -196,42 +197,23 @@ games_give_a_point_lem os o closing done =
     ap points_in_all (after_closing s o closing done) ∙ closed_points s p (all_in s o closing done)
 
 -- only kind 19 asks to close
-abbrev Closes : Operation → Asked → Type 0
-Closes o (Ok (Cell a ask)) = Unit {0}
-Closes o (Ok (Close round)) = o.kind ≡ 19
-Closes o (Ok (Total i)) = Unit {0}
-Closes o (Err fault) = Unit {0}
-
-seat_closes : (o : Operation) (r : Result BoardAsk Fault) → Closes o (of_cell o.a r)
+seat_closes : (o : Operation) (r : Result BoardAsk Fault) → Closes 19 o (of_cell o.a r)
 seat_closes o (Ok ask) = tt
 seat_closes o (Err fault) = tt
 
-closes : (o : Operation) → Closes o (asked o)
+closes : (o : Operation) → Closes 19 o (asked o)
 closes o =
-    cond_both (of_board o) (at_board o) _ (Closes o)
-    (λ _. cond_both (leb o.a 31) _ (Err NoPlace) (Closes o)
-    (λ _. cond_both (eqb o.kind 16) (of_cell o.a (seating o)) _ (Closes o)
+    cond_both (of_board o) (at_board o) _ (Closes 19 o)
+    (λ _. cond_both (leb o.a 31) _ (Err NoPlace) (Closes 19 o)
+    (λ _. cond_both (eqb o.kind 16) (of_cell o.a (seating o)) _ (Closes 19 o)
     (λ _. seat_closes o (seating o))
-    (λ _. cond_both (eqb o.kind 17) (Ok (Cell o.a (Enter o.b (outcome o.c)))) (Ok (Cell o.a Read)) (Closes o) (λ _. tt) (λ _. tt)))
+    (λ _. cond_both (eqb o.kind 17) (Ok (Cell o.a (Enter o.b (outcome o.c)))) (Ok (Cell o.a Read)) (Closes 19 o) (λ _. tt) (λ _. tt)))
     (λ _. tt))
-    (λ _. cond_both (eqb o.kind 19) (Ok (Close o.a)) _ (Closes o)
+    (λ _. cond_both (eqb o.kind 19) (Ok (Close o.a)) _ (Closes 19 o)
     (λ kind. eqb-true o.kind 19 kind)
-    (λ _. cond_both (eqb o.kind 20) _ (Err UnknownKind) (Closes o)
-    (λ _. cond_both (player o.a) (Ok (Total (o.a - 1))) (Err NoParty) (Closes o) (λ _. tt) (λ _. tt))
+    (λ _. cond_both (eqb o.kind 20) _ (Err UnknownKind) (Closes 19 o)
+    (λ _. cond_both (player o.a) (Ok (Total (o.a - 1))) (Err NoParty) (Closes 19 o) (λ _. tt) (λ _. tt))
     (λ _. tt)))
 
-changed_totals : (s : ChessSheet) (o : Operation) (x : Ask BoardAsk 32 64) → Closes o (Ok x) → (o.kind ≡ 19 → ⊥) → (changed chess s x).totals ≡ s.totals
-changed_totals s o (Cell a ask) c other = refl
-changed_totals s o (Close round) c other = absurd (other c)
-changed_totals s o (Total i) c other = refl
-
-left_totals : (s : ChessSheet) (o : Operation) (x : Ask BoardAsk 32 64) (r : Result ℤ Fault) → Closes o (Ok x) → (o.kind ≡ 19 → ⊥) → (left chess s x r).totals ≡ s.totals
-left_totals s o x (Ok value) c other = changed_totals s o x c other
-left_totals s o x (Err fault) c other = refl
-
-made_totals : (s : ChessSheet) (o : Operation) (x : Asked) → Closes o x → (o.kind ≡ 19 → ⊥) → (made chess s x).totals ≡ s.totals
-made_totals s o (Ok ask) c other = left_totals s o ask (says chess s ask) c other
-made_totals s o (Err fault) c other = refl
-
 pub points_stay_else : PointsStayElse
-points_stay_else s o other = made_totals s o (asked o) (closes o) other
+points_stay_else s o other = totals_stay chess 19 s o other (closes o)
