@@ -1,5 +1,5 @@
 -- What each call answers, and what it leaves.
-use Rattle.std.specs.Prelude.{◌≡◌, ℕ, ◌+◌, ◌-◌, ◌^◌, cond, not, ◌||◌, List, Ok, Err, Some, Option, is_some, Result, ◌==◌, count_ones, nat_le, nat_lt, slice_index_or, slice_set}
+use Rattle.std.specs.Prelude.{◌≡◌, ℕ, ◌+◌, ◌-◌, ◌^◌, true, cond, not, ◌||◌, List, Ok, Err, Option, Result, ◌==◌, count_ones, nat_le, nat_lt, slice_index_or, slice_set}
 use Rattle.std.specs.Result.{OnErr}
 use Rattle.congress.specs.Sending.{requests, no_operation}
 use Rattle.congress.specs.State.{State, World, world, fresh, hall_at, with_hall, console_at, with_console, with_count, short, lacks_room, messages, posting}
@@ -35,7 +35,7 @@ clock_step s h time =
 
 -- Issue: the console's next transaction
 abbrev pub opened_for : Console → ℕ → Console
-opened_for c halls = record { transaction = Some (record { halls = halls; replied = 0 }); sequence = c.sequence + 1; high = c.high }
+opened_for c halls = record { busy = true; sequence = c.sequence + 1; halls = halls; replied = 0; high = c.high }
 
 abbrev pub draft_of : Console → ℕ → ℕ → ℕ → List Operation → Request
 draft_of c k class halls operations =
@@ -50,7 +50,7 @@ abbrev pub issue_step : World → ℕ → ℕ → ℕ → List Operation → Res
 issue_step w k class halls operations =
     cond (short w) (Err ShortPost, w)
     (cond (nat_le 16 k) (Err NotThere, w)
-    (cond (is_some (console_at w.state k).transaction) (Err Busy, w)
+    (cond (console_at w.state k).busy (Err Busy, w)
     (cond (not (fit w.state.opened class halls)) (Err BadHalls, w)
     (cond (nat_le 1048576 (console_at w.state k).sequence) (Err UsedUp, w)
     (cond (lacks_room w (count_ones halls)) (Err NoRoom, w)

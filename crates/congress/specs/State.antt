@@ -1,5 +1,5 @@
 -- What a congress means: its tables as lists, of the queue only the entries that wait.
-use Rattle.std.specs.Prelude.{ℕ, ◌+◌, min, Bool, List, [], None, length, take, replicate, nat_lt, slice_index_or, slice_set}
+use Rattle.std.specs.Prelude.{ℕ, ◌+◌, min, Bool, false, List, [], length, take, replicate, nat_lt, slice_index_or, slice_set}
 use Rattle.std.proofs.lemmas.List.Edits.{sets}
 use Rattle.congress.specs.declared.tables.Console.{Console}
 use Rattle.congress.specs.declared.tables.Entry.{Entry}
@@ -29,7 +29,7 @@ abbrev pub no_hall : Hall
 no_hall = record { clock = 0; last = 0; mode = Timestamp; taken = [] }
 
 abbrev pub no_console : Console
-no_console = record { transaction = None; sequence = 0; high = 0 }
+no_console = record { busy = false; sequence = 0; halls = 0; replied = 0; high = 0 }
 
 abbrev pub hall_at : State → ℕ → Hall
 hall_at s h = slice_index_or s.halls h no_hall

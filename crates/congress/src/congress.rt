@@ -8,7 +8,7 @@ ghost use Rattle.records.specs.Finder.{first_in};
 
 use super::refusals::Refusal;
 use super::state::Congress;
-use super::tables::{Console, Entry, Hall, Opened};
+use super::tables::{Console, Entry, Hall};
 use records::{
     CONSOLES, LAST_SEQUENCE, LAST_STAMP, Message, Operation, Request, count_of, first_from, fits,
 };
@@ -23,8 +23,10 @@ impl Console {
         ensures console { self.new ≡ opened_for self.old halls }
         ensures sequence { result ≡ self.old.sequence + 1 }
     {
-        self.transaction = Some(Opened { halls, replied: 0 });
+        self.busy = true;
         self.sequence += 1;
+        self.halls = halls;
+        self.replied = 0;
         self.sequence
     }
 }
@@ -86,7 +88,7 @@ impl Congress {
             .consoles
             .get(console as usize)
             .ok_or(Refusal::NotThere)?;
-        if old.transaction.is_some() {
+        if old.busy {
             return Err(Refusal::Busy);
         }
         if !fits(self.opened, class, halls) {

@@ -6,7 +6,8 @@ use super::tables::{Console, Entry, Hall};
 
 #[derive(Drop)]
 pub struct Congress {
-    // its first `opened` halls are open, and the first `waiting` places of its queue in use: memory is fixed, with no heap for lists
+    // its first `opened` halls are open, and the first `waiting` places of its queue in use:
+    // a table is an array of structs in fixed memory (docs/DECISIONS.md, Forms)
     pub(crate) opened: u8,
     pub(crate) halls: [Hall; 8],
     pub(crate) consoles: [Console; 16],

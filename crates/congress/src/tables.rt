@@ -19,19 +19,14 @@ pub struct Hall {
     pub taken: [u32; 16],
 }
 
-// The halls that a console's open transaction names, and those that have replied.
-#[derive(Clone, Copy, Debug, Default, PartialEq, Eq, Hash)]
-pub struct Opened {
-    pub halls: u8,
-    pub replied: u8,
-}
-
 #[derive(Clone, Copy, Debug, Default, PartialEq, Eq, Hash)]
 pub struct Console {
-    // none where the console is free
-    pub transaction: Option<Opened>,
-    // that of its last transaction
+    // whether its last transaction is open: a flag and no Option, since docs/RULES.md has a console that is free again keep
+    // the halls that this transaction named, and those that replied
+    pub busy: bool,
     pub sequence: u32,
+    pub halls: u8,
+    pub replied: u8,
     // the highest stamp replied to it
     pub high: u64,
 }

@@ -9,7 +9,8 @@ pub trait Bears {
         ensures { result ≡ number self.now };
 }
 
-// The first place whose record bears the number, or none.
+// The first place whose record bears the number, or none. A step of its own: behind the `?` of `first_from` the check
+// does not find it.
 fn first_of<T: Bears>(items: &[T], number: u32) -> Option<usize>
     ensures { result ≡ position (λ x. T.Bears.number x == number) items.now }
 {
