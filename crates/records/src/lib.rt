@@ -26,6 +26,7 @@ pub use transactions::{
 // What a book is asked to do, by whom and with which numbers.
 #[derive(Clone, Copy, Debug, Default, PartialEq, Eq, Hash)]
 pub struct Operation {
+    // a number and no enum: an operation may have any, and each book knows its own kinds
     pub kind: u8,
     pub grant: u8,
     pub token: u32,
@@ -35,7 +36,8 @@ pub struct Operation {
     pub d: u16,
 }
 
-// What a book says to an operation: well done with place 0, or a fault with value 0.
+// What a book says to an operation: well done with place 0, or a fault with value 0. Four numbers and no Result, since the
+// answer that a reply carries may be anything (docs/RULES.md).
 #[derive(Clone, Copy, Debug, Default, PartialEq, Eq, Hash)]
 pub struct Answer {
     pub layer: u8,
