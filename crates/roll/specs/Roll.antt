@@ -9,7 +9,7 @@ use Rattle.records.specs.declared.Answer.{Answer}
 use Rattle.records.specs.declared.Operation.{Operation}
 use Rattle.roll.specs.Asking.{refuse, asked, of_roll, entry_key}
 use Rattle.roll.specs.declared.asking.Ask.{Ask}
-use Rattle.roll.specs.declared.asking.Ask.TheVariants.{Below, Write, Read}
+use Rattle.roll.specs.declared.asking.Ask.TheVariants.{Other, Write, Read}
 use Rattle.roll.specs.Refusals.{refused}
 use Rattle.roll.specs.declared.refusals.Refusal.TheVariants.{NotStanding}
 use Rattle.roll.specs.declared.refusals.Refused.{Refused}
@@ -44,14 +44,14 @@ filled token = cond (token == 0) (pos 0) (pos 1)
 
 -- What is answered to what is asked: kinds 1 to 3 tell whether the entry was filled before.
 abbrev pub says : Model → Sheet → Operation → Result Ask Refused → Answer
-says m s o (Ok Below) = m.answer s.below o
+says m s o (Ok Other) = m.answer s.below o
 says m s o (Ok (Write a token)) = done_with 3 (filled (entry s.tokens a))
 says m s o (Ok (Read a)) = done_with 3 (filled (entry s.tokens a))
 says m s o (Err r) = refused r
 
 -- What it makes of the sheet.
 abbrev pub changed : Model → Sheet → Operation → Result Ask Refused → Sheet
-changed m s o (Ok Below) = record { tokens = s.tokens; below = m.next s.below o }
+changed m s o (Ok Other) = record { tokens = s.tokens; below = m.next s.below o }
 changed m s o (Ok (Write a token)) = record { tokens = slice_set s.tokens a token; below = s.below }
 changed m s o (Ok (Read a)) = s
 changed m s o (Err r) = s

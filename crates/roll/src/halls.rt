@@ -47,7 +47,7 @@ impl<B: Book> Roll<B> {
             Err(refused) => return Answer::from(refused),
         };
         match ask {
-            Ask::Below => self.below.verdict(hall.get() as u8, op),
+            Ask::Other => self.below.verdict(hall.get() as u8, op),
             Ask::Write(entry, _) | Ask::Read(entry) => tell(self.tokens.at(hall, entry)),
         }
     }
@@ -62,7 +62,7 @@ impl<B: Book> Roll<B> {
             Err(refused) => return Answer::from(refused),
         };
         match ask {
-            Ask::Below => self.below.run(hall.get() as u8, op),
+            Ask::Other => self.below.run(hall.get() as u8, op),
             Ask::Write(entry, token) => tell(self.tokens.put(hall, entry, token)),
             Ask::Read(entry) => tell(self.tokens.at(hall, entry)),
         }
