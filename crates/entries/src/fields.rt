@@ -120,7 +120,7 @@ impl Value for i32 {
 }
 
 // A number from 0 on.
-#[derive(Clone, Copy)]
+#[derive(Clone, Copy, Debug, PartialEq, Eq, Hash)]
 pub struct Count(pub i32);
 
 impl Value for Count {
