@@ -1,5 +1,6 @@
 // The words of an account.
-use entries::{Game, Misread, Score};
+use chess::Outcome;
+use entries::{Game, Misread};
 use records::{Answer, Operation};
 use roll::Refusal;
 use rounds::Fault;
@@ -63,8 +64,8 @@ struct ScoreOr(i32);
 impl fmt::Display for ScoreOr {
     fn fmt<W: fmt::Write>(&self, f: &mut fmt::Formatter<W>) -> fmt::Result {
         let number = self.0;
-        match Score::try_from(number) {
-            Ok(score) => write!(f, "{score}"),
+        match Outcome::try_from(number) {
+            Ok(outcome) => write!(f, "{outcome}"),
             Err(_) => write!(f, "{number}"),
         }
     }
@@ -205,11 +206,11 @@ impl fmt::Display for By {
 
 // What came of an entry that was well done: the value in the words of its kind.
 #[derive(Clone, Copy, Debug, PartialEq, Eq, Hash)]
-struct Outcome(u8, i32);
+struct Done(u8, i32);
 
-impl fmt::Display for Outcome {
+impl fmt::Display for Done {
     fn fmt<W: fmt::Write>(&self, f: &mut fmt::Formatter<W>) -> fmt::Result {
-        let Outcome(kind, value) = *self;
+        let Done(kind, value) = *self;
         let score = ScoreOr(value);
         let half = HalfPoints(value.max(0) as u32);
         match Kind::from(kind) {
@@ -259,8 +260,8 @@ impl fmt::Display for Said {
     fn fmt<W: fmt::Write>(&self, f: &mut fmt::Formatter<W>) -> fmt::Result {
         let Said(kind, answer) = *self;
         if answer.is_well_done() {
-            let outcome = Outcome(kind, answer.value);
-            write!(f, "{outcome}")
+            let done = Done(kind, answer.value);
+            write!(f, "{done}")
         } else {
             let reason = Reason(answer);
             write!(f, "refused, {reason}")

@@ -1,13 +1,10 @@
 -- What a word of a line stands for.
-use Rattle.std.specs.Prelude.{ℕ, ◌+◌, ◌-◌, ◌*◌, Bool, cond, ◌&&◌, List, [], ◌∷◌, ℤ, pos, neg_ℤ, Some, None, codes, Option, Result, Ok, Err, ◌==◌, ◌≡◌, ◌≢◌, nat_le}
+use Rattle.std.specs.Prelude.{ℕ, ◌+◌, ◌-◌, ◌*◌, Bool, cond, ◌&&◌, List, [], ◌∷◌, ℤ, pos, neg_ℤ, Some, None, codes, Option, ◌==◌, nat_le}
 use Rattle.std.specs.Str.{bytes_eq}
 use Rattle.entries.specs.declared.Field.{Field}
 use Rattle.entries.specs.declared.Game.{Game}
 use Rattle.entries.specs.declared.Game.TheVariants.{Chess, Bridge}
 use Rattle.entries.specs.declared.Field.TheVariants.{Byte, Number, Count, Token, Whole, Score}
-use Rattle.entries.specs.declared.Score.{Score as ResultOf}
-use Rattle.entries.specs.declared.Score.TheVariants.{WhiteWon, Drawn, BlackWon}
-use Rattle.entries.specs.declared.UnknownScore.{UnknownScore}
 
 -- 0 to 9
 abbrev pub digit : ℕ → Bool
@@ -46,17 +43,6 @@ result_of word =
     cond (bytes_eq word (codes "1-0")) (Some (pos 1))
     (cond (bytes_eq word (codes "1/2")) (Some (pos 2))
     (cond (bytes_eq word (codes "0-1")) (Some (pos 3)) None))
-
--- the number of each result
-abbrev pub result_number : ResultOf → ℕ
-result_number WhiteWon = 1
-result_number Drawn = 2
-result_number BlackWon = 3
-
--- the result that a number stands for, or the number where it stands for none
-abbrev pub Scores : ℤ → Result ResultOf UnknownScore → Type 0
-Scores z (Ok score) = pos (result_number score) ≡ z
-Scores z (Err e) = (e.0 ≡ z) × (z ≢ pos 1) × (z ≢ pos 2) × (z ≢ pos 3)
 
 -- what a word stands for as a field of a line
 abbrev pub value : Field → List ℕ → Option ℤ

@@ -6,7 +6,8 @@ ghost use Rattle.entries.specs.Reading.{and_then, ended, entry as entry_word, op
 
 use crate::fields::{Count, game_of};
 use crate::words::Words;
-use crate::{Bearer, Expected, Game, Misread, Progress, Reading, Score};
+use crate::{Bearer, Expected, Game, Misread, Progress, Reading};
+use chess::Outcome;
 use records::Operation;
 
 // The first word of an entry.
@@ -212,7 +213,7 @@ fn entry_after(command: Command, rest: &[u8], at: Progress) -> Result<Reading, M
                 kind: chess::Kind::Enter as u8,
                 a: words.field()?,
                 b: words.field()?,
-                c: words.field::<Score>()? as i32,
+                c: words.field::<Outcome>()? as i32,
                 ..blank
             },
             words,

@@ -1,13 +1,15 @@
 // What a word of a line stands for.
 ghost use Rattle.std.specs.Prelude.{◌≡◌, ◌+◌, ◌<◌, ◌≤◌, ℤ, List, ℕ, [], pos, option_map, IfSome, Ok};
-ghost use Rattle.entries.specs.Fields.{number, whole, result_of, result_number, game, value};
+ghost use Rattle.chess.specs.Asking.{outcome_number};
+ghost use Rattle.entries.specs.Fields.{number, whole, result_of, game, value};
 ghost use Rattle.entries.specs.Reading.{misread, and_then, field, ended};
 ghost use Rattle.entries.specs.Words.{first_word, past_word};
 ghost use Rattle.entries.specs.declared.Field.{Field};
 ghost use Rattle.entries.specs.declared.Field.TheVariants as Field;
 
 use crate::words::{Word, Words};
-use crate::{Expected, Field, Game, Misread, Score};
+use crate::{Expected, Field, Game, Misread};
+use chess::Outcome;
 
 // How far below zero a whole number goes.
 const WHOLE_BELOW_ZERO: u32 = 2147483648;
@@ -118,7 +120,7 @@ impl Value for i32 {
 }
 
 // A number from 0 on.
-#[derive(Clone, Copy)]
+#[derive(Clone, Copy, Debug, PartialEq, Eq, Hash)]
 pub struct Count(pub i32);
 
 impl Value for Count {
@@ -135,20 +137,20 @@ impl Value for Count {
     }
 }
 
-impl Value for Score {
+impl Value for Outcome {
     ghost field = { Field.Score };
 
-    ghost number = { λ score. pos (result_number score) };
+    ghost number = { λ outcome. pos (outcome_number outcome) };
 
     fn field() -> Field {
         Field::Score
     }
 
-    fn of(word: &[u8]) -> Option<Score> {
+    fn of(word: &[u8]) -> Option<Outcome> {
         match word {
-            b"1-0" => Some(Score::WhiteWon),
-            b"1/2" => Some(Score::Drawn),
-            b"0-1" => Some(Score::BlackWon),
+            b"1-0" => Some(Outcome::White),
+            b"1/2" => Some(Outcome::Draw),
+            b"0-1" => Some(Outcome::Black),
             _ => None,
         }
     }

@@ -2,7 +2,6 @@
 #![tactic(auto)]
 
 ghost use Rattle.std.specs.Prelude.{◌≡◌};
-ghost use Rattle.entries.specs.Fields.{Scores};
 ghost use Rattle.entries.specs.Reading.{reading};
 
 mod commands;
@@ -51,44 +50,6 @@ pub struct Progress {
     // an entry was read
     pub begun: bool,
     pub bearer: Bearer,
-}
-
-// The result of a game of chess.
-#[derive(Clone, Copy, Debug, PartialEq, Eq, Hash)]
-pub enum Score {
-    WhiteWon = 1,
-    Drawn = 2,
-    BlackWon = 3,
-}
-
-// A number that stands for no result.
-#[derive(Clone, Copy, Debug, PartialEq, Eq, Hash)]
-pub struct UnknownScore(pub i32);
-
-impl TryFrom<i32> for Score {
-    type Error = UnknownScore;
-
-    ghost try_from_gives = { Scores };
-
-    fn try_from(number: i32) -> Result<Self, UnknownScore> {
-        match number {
-            1 => Ok(Score::WhiteWon),
-            2 => Ok(Score::Drawn),
-            3 => Ok(Score::BlackWon),
-            _ => Err(UnknownScore(number)),
-        }
-    }
-}
-
-// As a line writes it.
-impl fmt::Display for Score {
-    fn fmt<W: fmt::Write>(&self, f: &mut fmt::Formatter<W>) -> fmt::Result {
-        f.write_str(match self {
-            Score::WhiteWon => "1-0",
-            Score::Drawn => "1/2",
-            Score::BlackWon => "0-1",
-        })
-    }
 }
 
 // What a word after the first is to be.

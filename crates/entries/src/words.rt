@@ -28,7 +28,7 @@ fn first_line<'a>(text: &'a [u8]) -> (&'a [u8], &'a [u8])
 }
 
 // The lines of a text that are still to come.
-#[derive(Clone, Copy)]
+#[derive(Clone, Copy, Debug, PartialEq, Eq, Hash)]
 pub struct Lines<'a>(pub &'a [u8]);
 
 impl<'a> Iterator for Lines<'a> {
@@ -56,14 +56,15 @@ fn is_blank(byte: u8) -> bool
 }
 
 // A word of a line, empty where there is none, and its place in the line.
-#[derive(Clone, Copy)]
+#[derive(Clone, Copy, Debug, PartialEq, Eq, Hash)]
 pub struct Word<'a> {
     pub text: &'a [u8],
     pub place: u8,
 }
 
-// What is left of a line, and the place of the next word.
-#[derive(Clone, Copy)]
+// What is left of a line, and the place of the next word. What reads a word asks that the place is below 255, and no
+// type has that bound: each word read raises the place.
+#[derive(Clone, Copy, Debug, PartialEq, Eq, Hash)]
 pub struct Words<'a> {
     pub rest: &'a [u8],
     pub place: u8,

@@ -13,7 +13,7 @@ use Rattle.roll.specs.declared.refusals.Refused.{Refused}
 use Rattle.roll.specs.Promises.{RemovalEmpties, EntriesStay}
 use Rattle.roll.specs.Roll.{Sheet, write, read, entry, admitted, says, changed, answer, after}
 use Rattle.roll.specs.declared.asking.Ask.{Ask}
-use Rattle.roll.specs.declared.asking.Ask.TheVariants.{Below, Write, Read}
+use Rattle.roll.specs.declared.asking.Ask.TheVariants.{Other, Write, Read}
 use Rattle.roll.specs.declared.refusals.Refusal.TheVariants.{NotStanding}
 use Rattle.std.proofs.lemmas.Bool.{cases_eq, eqb-true}
 
@@ -21,7 +21,7 @@ module _ (m : Model) (s : Sheet) (o : Operation) where
   -- a removal that is well done empties its entry
   emptied : (x : Result Ask Refused) → length s.tokens ≡ 16 → o.kind ≡ 2 → admitted s.tokens o ≡ x → well_done (says m s o x) ≡ true
       → entry (changed m s o x).tokens o.a ≡ 0
-  emptied (Ok Below) n k e d = absurd (removal_below s.tokens o k e)
+  emptied (Ok Other) n k e d = absurd (removal_below s.tokens o k e)
   emptied (Ok (Write a v)) n k e d =
       let w = write_at s.tokens o a v e in
       ap (entry (set s.tokens a v)) (sym w.is) ∙ get_or-set_same s.tokens a v 0 (omega (arith, w.there)) ∙ removal_writes s.tokens o a v k e
@@ -30,7 +30,7 @@ module _ (m : Model) (s : Sheet) (o : Operation) where
 
   -- an entry that does not stay is written
   written : (x : Result Ask Refused) (g : ℕ) → (entry (changed m s o x).tokens g ≡ entry s.tokens g → ⊥) → (v : ℕ) × (x ≡ Ok (Write g v))
-  written (Ok Below) g new = absurd (new refl)
+  written (Ok Other) g new = absurd (new refl)
   written (Ok (Write a v)) g new =
       elim (cases_eq g a) [
         | inl same ↦ (v, ap (λ k. Ok (Write k v)) (sym same))

@@ -4,7 +4,7 @@ use Rattle.std.proofs.Common.{inl, inr, arith}
 use Rattle.records.specs.declared.Operation.{Operation}
 use Rattle.roll.specs.Asking.{of_roll}
 use Rattle.roll.specs.Roll.{entry, stands, admitted}
-use Rattle.roll.specs.declared.asking.Ask.TheVariants.{Below, Write, Read}
+use Rattle.roll.specs.declared.asking.Ask.TheVariants.{Other, Write, Read}
 use Rattle.std.proofs.lemmas.Bool.{cases_eq}
 use Rattle.std.proofs.lemmas.Bool.Decides.{nat_tests}
 
@@ -21,7 +21,7 @@ module _ (tokens : List ℕ) (o : Operation) where
   pub read_at : (a : ℕ) → admitted tokens o ≡ Ok (Read a) → AtEntry o a
   read_at a e = record { own = grind (arith, nat_tests); is = grind (arith, nat_tests); there = grind (arith, nat_tests) }
 
-  pub below_not_own : admitted tokens o ≡ Ok Below → of_roll o ≡ false
+  pub below_not_own : admitted tokens o ≡ Ok Other → of_roll o ≡ false
   below_not_own e = grind (arith, nat_tests)
 
   -- the chief alone writes
@@ -38,7 +38,7 @@ module _ (tokens : List ℕ) (o : Operation) where
   pub removal_reads : (a : ℕ) → o.kind ≡ 2 → admitted tokens o ≢ Ok (Read a)
   removal_reads a k e = grind (arith, nat_tests)
 
-  pub removal_below : o.kind ≡ 2 → admitted tokens o ≢ Ok Below
+  pub removal_below : o.kind ≡ 2 → admitted tokens o ≢ Ok Other
   removal_below k e = grind (arith, nat_tests)
 
   -- no grant stands at an empty entry

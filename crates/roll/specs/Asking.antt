@@ -3,7 +3,7 @@ use Rattle.std.specs.Prelude.{ℕ, ◌+◌, ◌^◌, Bool, cond, ◌&&◌, Ok, E
 use Rattle.book.specs.Numbers.{natural}
 use Rattle.records.specs.declared.Operation.{Operation}
 use Rattle.roll.specs.declared.asking.Ask.{Ask}
-use Rattle.roll.specs.declared.asking.Ask.TheVariants.{Below, Write, Read}
+use Rattle.roll.specs.declared.asking.Ask.TheVariants.{Other, Write, Read}
 use Rattle.roll.specs.declared.refusals.Refusal.{Refusal}
 use Rattle.roll.specs.declared.refusals.Refusal.TheVariants.{NotChief, NoEntry, NoToken}
 use Rattle.roll.specs.declared.refusals.Refused.{Refused}
@@ -42,7 +42,7 @@ asked o =
     cond (o.kind == 1) (writing (entry_to_write o) (token_appointed o))
     (cond (o.kind == 2) (writing (entry_to_write o) (Ok 0))
     (cond (o.kind == 3) (looking (entry_named o))
-    (Ok Below)))
+    (Ok Other)))
 
 -- kinds 1 to 3 are the roll's own
 abbrev pub of_roll : Operation → Bool

@@ -10,7 +10,7 @@ use Rattle.records.specs.declared.Operation.{Operation}
 use Rattle.roll.specs.Admitted.{AtEntry, write_at, read_at, below_not_own}
 use Rattle.roll.specs.Asking.{of_roll, entry_key}
 use Rattle.roll.specs.Roll.{admitted, roll_keys, roll_model}
-use Rattle.roll.specs.declared.asking.Ask.TheVariants.{Below, Write, Read}
+use Rattle.roll.specs.declared.asking.Ask.TheVariants.{Other, Write, Read}
 use Rattle.std.proofs.lemmas.Bool.{cond-true, cond-false, le-leb}
 
 -- Unions of sets of keys.
@@ -47,13 +47,13 @@ module _ (m : Model) where
   pub held_read : (tokens : List ℕ) (o : Operation) (a : ℕ) → admitted tokens o ≡ Ok (Read a) → Held (roll_keys m o) (48 + a)
   held_read tokens o a e = held_at o a (read_at tokens o a e)
 
-  below_right : (tokens : List ℕ) (o : Operation) (set : ℕ) → admitted tokens o ≡ Ok Below → bit_and (roll_keys m o) set ≡ 0 → bit_and (m.keys o) set ≡ 0
+  below_right : (tokens : List ℕ) (o : Operation) (set : ℕ) → admitted tokens o ≡ Ok Other → bit_and (roll_keys m o) set ≡ 0 → bit_and (m.keys o) set ≡ 0
   below_right tokens o set e h =
       ap (λ keys. bit_and keys set) (sym (cond-false (of_roll o) (entry_key o.a) (m.keys o) (below_not_own tokens o e)))
       ∙ disjoint_right (entry_key o.grant) _ set h
 
   -- two operations that both go to the book below share no key there either
-  pub disjoint_below : (tokens : List ℕ) (o q : Operation) → admitted tokens o ≡ Ok Below → admitted tokens q ≡ Ok Below → Disjoint (roll_model m) o q → Disjoint m o q
+  pub disjoint_below : (tokens : List ℕ) (o q : Operation) → admitted tokens o ≡ Ok Other → admitted tokens q ≡ Ok Other → Disjoint (roll_model m) o q → Disjoint m o q
   disjoint_below tokens o q e f h =
       let half = below_right tokens o (roll_keys m q) e h in
       and_comm (m.keys o) (m.keys q) ∙ below_right tokens q (m.keys o) f (and_comm (roll_keys m q) (m.keys o) ∙ half)

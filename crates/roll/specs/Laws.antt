@@ -16,7 +16,7 @@ use Rattle.roll.specs.Refusals.{cause}
 use Rattle.roll.specs.declared.refusals.Refused.{Refused}
 use Rattle.roll.specs.Roll.{Sheet, write, read, entry, stands, admitted, filled, says, changed, answer, after, roll_keys, roll_model}
 use Rattle.roll.specs.declared.asking.Ask.{Ask}
-use Rattle.roll.specs.declared.asking.Ask.TheVariants.{Below, Write, Read}
+use Rattle.roll.specs.declared.asking.Ask.TheVariants.{Other, Write, Read}
 use Rattle.roll.specs.declared.refusals.Refusal.{Refusal}
 use Rattle.roll.specs.declared.refusals.Refusal.TheVariants.{NotStanding, NotChief, NoEntry, NoToken}
 use Rattle.std.proofs.lemmas.Bool.{cases_lt, and_left, lt-leb, true≢false}
@@ -39,7 +39,7 @@ module _ (m : Model) (lawful : Lawful m) where
   -- One operation.
   module _ (s : Sheet) (o : Operation) (kept : Kept m s) where
     kept_changed : (x : Result Ask Refused) → Kept m (changed m s o x)
-    kept_changed (Ok Below) = record { sixteen = kept.sixteen; own = lawful.keeps s.below o kept.own }
+    kept_changed (Ok Other) = record { sixteen = kept.sixteen; own = lawful.keeps s.below o kept.own }
     kept_changed (Ok (Write a token)) = record { sixteen = simp length-set kept.sixteen; own = kept.own }
     kept_changed (Ok (Read a)) = kept
     kept_changed (Err r) = kept
@@ -48,13 +48,13 @@ module _ (m : Model) (lawful : Lawful m) where
     kept_after = kept_changed (admitted s.tokens o)
 
     says_shaped : (x : Result Ask Refused) → Shaped (says m s o x)
-    says_shaped (Ok Below) = lawful.shaped s.below o kept.own
+    says_shaped (Ok Other) = lawful.shaped s.below o kept.own
     says_shaped (Ok (Write a token)) = record { done = λ _. refl; fault = λ no. absurd (no refl) }
     says_shaped (Ok (Read a)) = record { done = λ _. refl; fault = λ no. absurd (no refl) }
     says_shaped (Err r) = record { done = λ e. absurd (cause_not_0 r.why e); fault = λ _. refl }
 
     fault_changes : (x : Result Ask Refused) → well_done (says m s o x) ≡ false → changed m s o x ≡ s
-    fault_changes (Ok Below) f = ap (λ u. record { tokens = s.tokens; below = u }) (lawful.fault_leaves s.below o kept.own f)
+    fault_changes (Ok Other) f = ap (λ u. record { tokens = s.tokens; below = u }) (lawful.fault_leaves s.below o kept.own f)
     fault_changes (Ok (Write a token)) f = absurd (true≢false f)
     fault_changes (Ok (Read a)) f = refl
     fault_changes (Err r) f = refl
@@ -62,7 +62,7 @@ module _ (m : Model) (lawful : Lawful m) where
   -- an operation leaves each entry whose key it lacks
   leaves : (s : Sheet) (o : Operation) (x : Result Ask Refused) (g : ℕ) → admitted s.tokens o ≡ x → (Held (roll_keys m o) (48 + g) → ⊥)
       → entry (changed m s o x).tokens g ≡ entry s.tokens g
-  leaves s o (Ok Below) g e lacks = refl
+  leaves s o (Ok Other) g e lacks = refl
   leaves s o (Ok (Write a token)) g e lacks =
       get_or-set_other s.tokens a g token 0 (λ same. lacks (subst (λ k. Held (roll_keys m o) (48 + k)) (sym same) (held_write m s.tokens o a token e)))
   leaves s o (Ok (Read a)) g e lacks = refl
@@ -88,10 +88,10 @@ module _ (m : Model) (lawful : Lawful m) where
 
     module _ (kept : Kept m s) where
       says_same : (x y : Result Ask Refused) → admitted s.tokens o ≡ x → admitted s.tokens q ≡ y → says m (changed m s q y) o x ≡ says m s o x
-      says_same (Ok Below) (Ok Below) e f = lawful.same_answer s.below o q kept.own (disjoint_below m s.tokens o q e f none)
-      says_same (Ok Below) (Ok (Write b w)) e f = refl
-      says_same (Ok Below) (Ok (Read b)) e f = refl
-      says_same (Ok Below) (Err r) e f = refl
+      says_same (Ok Other) (Ok Other) e f = lawful.same_answer s.below o q kept.own (disjoint_below m s.tokens o q e f none)
+      says_same (Ok Other) (Ok (Write b w)) e f = refl
+      says_same (Ok Other) (Ok (Read b)) e f = refl
+      says_same (Ok Other) (Err r) e f = refl
       says_same (Ok (Write a v)) y e f = ap (λ token. done_with 3 (filled token)) (leaves s q y a f (lacks a (held_write m s.tokens o a v e)))
       says_same (Ok (Read a)) y e f = ap (λ token. done_with 3 (filled token)) (leaves s q y a f (lacks a (held_read m s.tokens o a e)))
       says_same (Err r) y e f = refl
@@ -101,12 +101,12 @@ module _ (m : Model) (lawful : Lawful m) where
 
       changed_same : (x y : Result Ask Refused) → admitted s.tokens o ≡ x → admitted s.tokens q ≡ y
           → changed m (changed m s o x) q y ≡ changed m (changed m s q y) o x
-      changed_same (Ok Below) (Ok Below) e f =
+      changed_same (Ok Other) (Ok Other) e f =
           ap (λ u. record { tokens = s.tokens; below = u }) (lawful.same_page s.below o q kept.own (disjoint_below m s.tokens o q e f none))
-      changed_same (Ok Below) (Ok (Write b w)) e f = refl
-      changed_same (Ok Below) (Ok (Read b)) e f = refl
-      changed_same (Ok Below) (Err r) e f = refl
-      changed_same (Ok (Write a v)) (Ok Below) e f = refl
+      changed_same (Ok Other) (Ok (Write b w)) e f = refl
+      changed_same (Ok Other) (Ok (Read b)) e f = refl
+      changed_same (Ok Other) (Err r) e f = refl
+      changed_same (Ok (Write a v)) (Ok Other) e f = refl
       changed_same (Ok (Write a v)) (Ok (Write b w)) e f =
           ap (λ tokens. record { tokens = tokens; below = s.below })
           (set_comm s.tokens a b v w (λ same.

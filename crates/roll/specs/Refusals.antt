@@ -1,5 +1,5 @@
 -- The numbers of the roll's refusals, and the fault of each.
-use Rattle.std.specs.Prelude.{ℕ, cond, Some, None, Option, ◌==◌}
+use Rattle.std.specs.Prelude.{ℕ, cond, Some, None, Option, Ok, Err, Result, ◌==◌}
 use Rattle.records.specs.Answers.{fault_at}
 use Rattle.records.specs.declared.Answer.{Answer}
 use Rattle.roll.specs.declared.refusals.Refusal.{Refusal}
@@ -22,3 +22,8 @@ refusal_of n =
 
 abbrev pub refused : Refused → Answer
 refused r = fault_at 3 (cause r.why) r.place
+
+-- the answer to an operation: what is said to it, or why it is refused
+abbrev pub answered : Result Answer Refused → Answer
+answered (Ok answer) = answer
+answered (Err r) = refused r

@@ -9,8 +9,8 @@ use Rattle.records.specs.declared.Answer.{Answer}
 use Rattle.records.specs.declared.Operation.{Operation}
 use Rattle.roll.specs.Asking.{refuse, asked, of_roll, entry_key}
 use Rattle.roll.specs.declared.asking.Ask.{Ask}
-use Rattle.roll.specs.declared.asking.Ask.TheVariants.{Below, Write, Read}
-use Rattle.roll.specs.Refusals.{refused}
+use Rattle.roll.specs.declared.asking.Ask.TheVariants.{Other, Write, Read}
+use Rattle.roll.specs.Refusals.{answered}
 use Rattle.roll.specs.declared.refusals.Refusal.TheVariants.{NotStanding}
 use Rattle.roll.specs.declared.refusals.Refused.{Refused}
 use Rattle.roll.specs.declared.halls.Roll.{Roll}
@@ -42,21 +42,27 @@ admitted tokens o = cond (stands tokens o) (asked o) (refuse NotStanding o.grant
 abbrev pub filled : ℕ → ℤ
 filled token = cond (token == 0) (pos 0) (pos 1)
 
--- What is answered to what is asked: kinds 1 to 3 tell whether the entry was filled before.
+-- What is said to what is asked: kinds 1 to 3 tell whether the entry was filled before.
+abbrev pub said : Model → Sheet → Operation → Result Ask Refused → Result Answer Refused
+said m s o (Ok Other) = Ok (m.answer s.below o)
+said m s o (Ok (Write a token)) = Ok (done_with 3 (filled (entry s.tokens a)))
+said m s o (Ok (Read a)) = Ok (done_with 3 (filled (entry s.tokens a)))
+said m s o (Err r) = Err r
+
 abbrev pub says : Model → Sheet → Operation → Result Ask Refused → Answer
-says m s o (Ok Below) = m.answer s.below o
-says m s o (Ok (Write a token)) = done_with 3 (filled (entry s.tokens a))
-says m s o (Ok (Read a)) = done_with 3 (filled (entry s.tokens a))
-says m s o (Err r) = refused r
+says m s o x = answered (said m s o x)
 
 -- What it makes of the sheet.
 abbrev pub changed : Model → Sheet → Operation → Result Ask Refused → Sheet
-changed m s o (Ok Below) = record { tokens = s.tokens; below = m.next s.below o }
+changed m s o (Ok Other) = record { tokens = s.tokens; below = m.next s.below o }
 changed m s o (Ok (Write a token)) = record { tokens = slice_set s.tokens a token; below = s.below }
 changed m s o (Ok (Read a)) = s
 changed m s o (Err r) = s
 
--- What an operation answers, and the sheet after it.
+-- What is said to an operation, what it answers, and the sheet after it.
+abbrev pub reply : Model → Sheet → Operation → Result Answer Refused
+reply m s o = said m s o (admitted s.tokens o)
+
 abbrev pub answer : Model → Sheet → Operation → Answer
 answer m s o = says m s o (admitted s.tokens o)
 

@@ -20,8 +20,8 @@ const FIRST_KEY: usize = 48;
 
 #[derive(Clone, Copy, Debug, PartialEq, Eq, Hash)]
 pub enum Ask {
-    // nothing of the roll: the book below is asked
-    Below,
+    // what is no matter of the roll; a variant and no Option, since it is asked like the others, of the book below
+    Other,
     // entry, and its token from now on
     Write(Below<ENTRIES>, u32),
     // entry
@@ -79,7 +79,7 @@ pub(crate) fn ask_of(op: Operation) -> Result<Ask, Refused>
         Ok(Kind::Appoint) => Ok(Ask::Write(entry_of_chief(op)?, token_of(op)?)),
         Ok(Kind::Remove) => Ok(Ask::Write(entry_of_chief(op)?, EMPTY)),
         Ok(Kind::Read) => Ok(Ask::Read(entry_of(op)?)),
-        Err(_) => Ok(Ask::Below),
+        Err(_) => Ok(Ask::Other),
     }
 }
 

@@ -1,12 +1,13 @@
 // The roll as a book: it answers for eight halls, and hands on to the book below what is not its own.
 ghost use Rattle.std.specs.Prelude.{◌≡◌, ℕ, ◌<◌, ◌≢◌};
 ghost use Rattle.records.specs.Answers.{done_with};
-ghost use Rattle.roll.specs.Roll.{filled, answer, after, roll_model, sheet_of, page_of, first_page};
+ghost use Rattle.roll.specs.Roll.{filled, reply, after, roll_model, sheet_of, page_of, first_page};
 ghost use Rattle.roll.specs.Laws.{own_page, roll_lawful};
 ghost use Rattle.roll.specs.Table.{length_hall};
 
 use super::LAYER;
 use super::asking::{Ask, EMPTY, is_of_roll, key_of_entry};
+use super::refusals::{Refused, answer_with};
 use super::tokens::Tokens;
 use book::{Book, HALLS, refuse_hall};
 use records::{Answer, Below, Operation};
@@ -39,33 +40,27 @@ fn tell(token: u32) -> Answer
 
 // What is asked at one of the eight halls.
 impl<B: Book> Roll<B> {
-    fn verdict_at(&self, hall: Below<HALLS>, op: Operation) -> Answer
-        ensures { result ≡ answer B.model (sheet_of B.pages self.now hall) op }
+    fn verdict_at(&self, hall: Below<HALLS>, op: Operation) -> Result<Answer, Refused>
+        ensures { result ≡ reply B.model (sheet_of B.pages self.now hall) op }
     {
-        let ask = match self.tokens.admit(hall, op) {
-            Ok(ask) => ask,
-            Err(refused) => return Answer::from(refused),
-        };
-        match ask {
-            Ask::Below => self.below.verdict(hall.get() as u8, op),
+        let ask = self.tokens.admit(hall, op)?;
+        Ok(match ask {
+            Ask::Other => self.below.verdict(hall.get() as u8, op),
             Ask::Write(entry, _) | Ask::Read(entry) => tell(self.tokens.at(hall, entry)),
-        }
+        })
     }
 
-    fn run_at(&mut self, hall: Below<HALLS>, op: Operation) -> Answer
-        ensures answer { result ≡ answer B.model (sheet_of B.pages self.old hall) op }
+    fn run_at(&mut self, hall: Below<HALLS>, op: Operation) -> Result<Answer, Refused>
+        ensures said { result ≡ reply B.model (sheet_of B.pages self.old hall) op }
         ensures here { sheet_of B.pages self.new hall ≡ after B.model (sheet_of B.pages self.old hall) op }
         ensures others { (h : ℕ) → (h ≢ hall) → sheet_of B.pages self.new h ≡ sheet_of B.pages self.old h }
     {
-        let ask = match self.tokens.admit(hall, op) {
-            Ok(ask) => ask,
-            Err(refused) => return Answer::from(refused),
-        };
-        match ask {
-            Ask::Below => self.below.run(hall.get() as u8, op),
+        let ask = self.tokens.admit(hall, op)?;
+        Ok(match ask {
+            Ask::Other => self.below.run(hall.get() as u8, op),
             Ask::Write(entry, token) => tell(self.tokens.put(hall, entry, token)),
             Ask::Read(entry) => tell(self.tokens.at(hall, entry)),
-        }
+        })
     }
 }
 
@@ -90,7 +85,7 @@ impl<B: Book> Book for Roll<B> {
 
     fn verdict(&self, hall: u8, op: Operation) -> Answer {
         match Below::new(usize::from(hall)) {
-            Some(place) => self.verdict_at(place, op),
+            Some(place) => answer_with(self.verdict_at(place, op)),
             None => refuse_hall(LAYER, hall),
         }
     }
@@ -98,7 +93,7 @@ impl<B: Book> Book for Roll<B> {
     #[tactic(auto, using(crate::specs::Pages::turned_roll))]
     fn run(&mut self, hall: u8, op: Operation) -> Answer {
         match Below::new(usize::from(hall)) {
-            Some(place) => self.run_at(place, op),
+            Some(place) => answer_with(self.run_at(place, op)),
             None => refuse_hall(LAYER, hall),
         }
     }

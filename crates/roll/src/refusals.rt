@@ -1,7 +1,7 @@
 // Why the roll does not do an operation, and the numbers of that.
 ghost use Rattle.std.specs.Prelude.{◌≡◌};
 ghost use Rattle.records.specs.Numbers.{Reads};
-ghost use Rattle.roll.specs.Refusals.{cause, refusal_of, refused};
+ghost use Rattle.roll.specs.Refusals.{cause, refusal_of, refused, answered};
 
 use super::LAYER;
 use records::{Answer, UnknownNumber};
@@ -55,4 +55,11 @@ impl From<Refused> for Answer {
     fn from(r: Refused) -> Answer {
         Answer::fault(LAYER, u8::from(r.why), r.place)
     }
+}
+
+// The answer to an operation: what is said to it, or why it is refused.
+pub(crate) fn answer_with(said: Result<Answer, Refused>) -> Answer
+    ensures { result ≡ answered said }
+{
+    said.unwrap_or_else(Answer::from)
 }

@@ -2,8 +2,7 @@
 #![tactic(auto)]
 
 ghost use Rattle.std.specs.Prelude.{◌≡◌};
-ghost use Rattle.chess.specs.Page.{chess};
-ghost use Rattle.rounds.specs.Pages.{write, model, blank};
+ghost use Rattle.chess.specs.Page.{write, blank, chess_model};
 ghost use Rattle.roll.specs.Roll.{roll_model, first_page};
 ghost use Rattle.worked.specs.Examples.{WorkedExamples};
 
@@ -22,7 +21,7 @@ pub fn worked_examples() -> u8
 
 // What a new book of chess says in hall 0 under two rolls: a roll over a roll is a book by the same proof.
 pub fn verdict_under_two_rolls(upper: u32, lower: u32, op: Operation) -> Answer
-    ensures { result ≡ (roll_model (roll_model (model chess))).answer (first_page upper (first_page lower (write chess (blank chess)))) op }
+    ensures { result ≡ (roll_model (roll_model chess_model)).answer (first_page upper (first_page lower (write blank))) op }
 {
     let chess = Chess::new();
     let inner = Roll::new(lower, chess);

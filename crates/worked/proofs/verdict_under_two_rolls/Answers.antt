@@ -1,6 +1,5 @@
 use Rattle.std.proofs.Common.{ap, ◌∙◌, lit<}
-use Rattle.chess.specs.Page.{chess}
-use Rattle.rounds.specs.Pages.{model}
+use Rattle.chess.specs.Page.{chess_model}
 use Rattle.roll.specs.Roll.{roll_model, first_page}
 use Rattle.worked.proofs.verdict_under_two_rolls.Goals as goal
 
@@ -8,4 +7,4 @@ pub returns : goal.returns
 returns c =
     let page =
     c.new-outer.ensures 0 (lit< tt) ∙ ap (first_page c.args.upper) (c.new-inner.ensures 0 (lit< tt) ∙ ap (first_page c.args.lower) (c.new-chess.ensures 0)) in
-    c.verdict.ensures ∙ ap (λ p. (roll_model (roll_model (model chess))).answer p c.args.op) page
+    c.verdict.ensures ∙ ap (λ p. (roll_model (roll_model chess_model)).answer p c.args.op) page

@@ -1,6 +1,7 @@
 use Rattle.std.proofs.Common.{◌≡◌, ◌≤◌, ap, ◌∙◌, rules}
 use Rattle.book.specs.Model.{told}
 use Rattle.roll.specs.Pages.{told_roll}
+use Rattle.roll.specs.Refusals.{answered}
 use Rattle.roll.specs.Roll.{roll_model, page_of}
 use Rattle.roll.proofs.halls.RollBook.run.Goals as goal
 
@@ -12,4 +13,4 @@ returns-in-Some-clause-answer g c =
     let hall = c.in-Some.place in
     let inside : hall ≤ 7 = search rules in
     let same : hall ≡ c.args.hall = search rules in
-    c.run_at.ensures.answer ∙ told_roll m pages r hall c.args.op inside ∙ ap (λ h. told (roll_model m) (page_of pages r) h c.args.op) same
+    c.answer_with.ensures ∙ ap answered c.run_at.ensures.said ∙ told_roll m pages r hall c.args.op inside ∙ ap (λ h. told (roll_model m) (page_of pages r) h c.args.op) same
