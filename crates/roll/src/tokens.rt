@@ -27,6 +27,7 @@ impl Tokens {
         ensures { (h : ℕ) → h < 8 → hall_tokens result.tokens h ≡ first_tokens chief }
     {
         let mut tokens = [0; 128];
+        // by index: `iter_mut` leaves nothing known of the array, and `place_of` wants a `Below` for each number
         for hall in 0..HALLS {
             tokens[hall * ENTRIES] = chief;
         }
