@@ -1,43 +1,11 @@
 // What an operation asks of the book of bridge, as far as its own numbers tell.
 ghost use Rattle.std.specs.Prelude.{◌≡◌};
-ghost use Rattle.bridge.specs.Asking.{fair, place, party, asked_score, asked_line, asked, keys as keys_needed, kind_number, ReadsKind};
+ghost use Rattle.bridge.specs.Asking.{fair, place, party, asked_score, asked_line, asked, keys as keys_needed};
 
+use super::kinds::Kind;
 use super::sheet::{DEALS, Entry, PAIRS, TOTALS};
 use records::{Below, Operation};
-use rounds::Fault;
-
-// The kinds of operations by their numbers.
-#[derive(Clone, Copy, Debug, PartialEq, Eq, Hash)]
-pub enum Kind {
-    Score = 32,
-    Read = 33,
-    Close = 34,
-    Total = 35,
-}
-
-impl TryFrom<u8> for Kind {
-    type Error = Fault;
-
-    ghost try_from_gives = { ReadsKind };
-
-    fn try_from(number: u8) -> Result<Kind, Fault> {
-        match number {
-            32 => Ok(Kind::Score),
-            33 => Ok(Kind::Read),
-            34 => Ok(Kind::Close),
-            35 => Ok(Kind::Total),
-            _ => Err(Fault::UnknownKind),
-        }
-    }
-}
-
-impl From<Kind> for u8 {
-    ghost from_gives = { λ kind number. number ≡ kind_number kind };
-
-    fn from(kind: Kind) -> u8 {
-        kind as u8
-    }
-}
+use rounds::{Fault, below_or};
 
 // The largest score of a deal, for either side.
 const LARGEST: u32 = 7600;
@@ -67,13 +35,13 @@ fn is_fair(score: i32) -> bool
 fn place(number: u16) -> Result<Below<DEALS>, Fault>
     ensures { result ≡ place number }
 {
-    Below::new(usize::from(number)).ok_or(Fault::NoPlace)
+    below_or(number, Fault::NoPlace)
 }
 
 fn party(number: u16) -> Result<Below<PAIRS>, Fault>
     ensures { result ≡ party number }
 {
-    Below::new(usize::from(number)).ok_or(Fault::NoParty)
+    below_or(number, Fault::NoParty)
 }
 
 fn ask_score(op: Operation) -> Result<Ask, Fault>
@@ -107,7 +75,7 @@ pub(crate) fn asked(op: Operation) -> Result<Ask, Fault>
         Kind::Score => ask_score(op),
         Kind::Read => ask_line(op),
         Kind::Close => Ok(Ask::Close(op.a)),
-        Kind::Total => Ok(Ask::Total(Below::new(usize::from(op.a)).ok_or(Fault::NoParty)?)),
+        Kind::Total => Ok(Ask::Total(below_or(op.a, Fault::NoParty)?)),
     }
 }
 

@@ -6,7 +6,7 @@ ghost use Rattle.chess.specs.Asking.{player, place, party, seating, at_board, as
 use super::kinds::Kind;
 use super::sheet::{BOARDS, Outcome, PLAYERS};
 use records::{Below, Operation};
-use rounds::{Ask, Fault};
+use rounds::{Ask, Fault, below_or};
 
 // What is asked of a board.
 #[derive(Clone, Copy, Debug, PartialEq, Eq, Hash)]
@@ -34,7 +34,7 @@ fn is_player(n: usize) -> bool
 fn place(a: u16) -> Result<Below<BOARDS>, Fault>
     ensures { result ≡ place a }
 {
-    Below::new(usize::from(a)).ok_or(Fault::NoPlace)
+    below_or(a, Fault::NoPlace)
 }
 
 // A player's place among the totals.
@@ -44,7 +44,7 @@ fn party(a: u16) -> Result<Below<PLAYERS>, Fault>
     if a == 0 {
         return Err(Fault::NoParty);
     }
-    Below::new(usize::from(a) - 1).ok_or(Fault::NoParty)
+    below_or(a - 1, Fault::NoParty)
 }
 
 fn seating(op: Operation) -> Result<BoardAsk, Fault>
@@ -77,13 +77,15 @@ pub(crate) fn asked(op: Operation) -> Result<Ask<BoardAsk, BOARDS, PLAYERS>, Fau
 pub(crate) fn keys(op: Operation) -> u64
     ensures { result ≡ keys_needed op }
 {
-    match Kind::try_from(op.kind) {
-        Ok(Kind::Seat | Kind::Enter | Kind::Read) => match place(op.a) {
+    let Ok(kind) = Kind::try_from(op.kind) else {
+        return 0;
+    };
+    match kind {
+        Kind::Seat | Kind::Enter | Kind::Read => match place(op.a) {
             Ok(board) => 1 << board.get(),
             Err(_) => 0,
         },
-        Ok(Kind::Close) => 0x1_ffff_ffff,
-        Ok(Kind::Total) => 1 << 32,
-        Err(_) => 0,
+        Kind::Close => 0x1_ffff_ffff,
+        Kind::Total => 1 << 32,
     }
 }

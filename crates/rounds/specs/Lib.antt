@@ -10,7 +10,6 @@ pub mod Kept
 -- what a game has to prove of its cells
 pub mod Fits
 pub mod Rooms
-
 -- proofs: lemmas, each checked, that end in the law of books
 pub mod Totals
 pub mod Shapes
