@@ -17,11 +17,6 @@ abbrev pub Ask : Type 0
 Ask = AskOf DealAsk 16 16
 
 -- deals 0 to 15, and pairs 0 to 7 of either side
-abbrev pub place : ℕ → Result ℕ Fault
-place n = cond (nat_le n 15) (Ok n) (Err NoPlace)
-
-abbrev pub party : ℕ → Result ℕ Fault
-party n = cond (nat_le n 7) (Ok n) (Err NoParty)
 
 -- kind 32: score c on deal a, of North-South pair b against East-West pair d
 abbrev pub asked_score : Operation → Result Ask Fault

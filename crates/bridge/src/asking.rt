@@ -1,6 +1,6 @@
 // What an operation asks of the book of bridge, as far as its own numbers tell.
 ghost use Rattle.std.specs.Prelude.{◌≡◌};
-ghost use Rattle.bridge.specs.Asking.{fair, place, party, asked_score, asked_line, asked, keys as keys_needed};
+ghost use Rattle.bridge.specs.Asking.{fair, asked_score, asked_line, asked, keys as keys_needed};
 
 use super::kinds::Kind;
 use super::sheet::{DEALS, Entry, PAIRS, TOTALS};
@@ -32,24 +32,12 @@ fn is_fair(score: i32) -> bool
     size <= LARGEST && size % STEP == 0
 }
 
-fn place(number: u16) -> Result<Below<DEALS>, Fault>
-    ensures { result ≡ place number }
-{
-    below_or(number, Fault::NoPlace)
-}
-
-fn party(number: u16) -> Result<Below<PAIRS>, Fault>
-    ensures { result ≡ party number }
-{
-    below_or(number, Fault::NoParty)
-}
-
 fn ask_score(op: Operation) -> Result<Ask, Fault>
     ensures { result ≡ asked_score op }
 {
-    let deal = place(op.a)?;
-    let north_south = party(op.b)?;
-    let pair = party(op.d)?;
+    let deal = below_or(op.a, Fault::NoPlace)?;
+    let north_south = below_or(op.b, Fault::NoParty)?;
+    let pair = below_or(op.d, Fault::NoParty)?;
     if !is_fair(op.c) {
         return Err(Fault::BadResult);
     }
@@ -62,8 +50,8 @@ fn ask_score(op: Operation) -> Result<Ask, Fault>
 fn ask_line(op: Operation) -> Result<Ask, Fault>
     ensures { result ≡ asked_line op }
 {
-    let deal = place(op.a)?;
-    let north_south = party(op.b)?;
+    let deal = below_or(op.a, Fault::NoPlace)?;
+    let north_south = below_or(op.b, Fault::NoParty)?;
     Ok(Ask::Cell(deal, DealAsk::Read(north_south)))
 }
 
@@ -87,7 +75,7 @@ pub(crate) fn keys(op: Operation) -> u64
         return 0;
     };
     match kind {
-        Kind::Score | Kind::Read => match place(op.a) {
+        Kind::Score | Kind::Read => match below_or::<DEALS>(op.a, Fault::NoPlace) {
             Ok(deal) => 1 << deal.get(),
             Err(_) => 0,
         },

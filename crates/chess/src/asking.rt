@@ -1,7 +1,7 @@
 // What an operation asks of the book of chess, as far as its own numbers tell.
 ghost use Rattle.std.specs.Prelude.{◌≡◌, ok_or};
 ghost use Rattle.book.specs.Numbers.{natural as natural_part};
-ghost use Rattle.chess.specs.Asking.{player, place, party, seating, at_board, asked, keys as keys_needed};
+ghost use Rattle.chess.specs.Asking.{player, party, seating, at_board, asked, keys as keys_needed};
 
 use super::kinds::Kind;
 use super::sheet::{BOARDS, Outcome, PLAYERS};
@@ -31,12 +31,6 @@ fn is_player(n: usize) -> bool
     n >= 1 && n <= PLAYERS
 }
 
-fn place(a: u16) -> Result<Below<BOARDS>, Fault>
-    ensures { result ≡ place a }
-{
-    below_or(a, Fault::NoPlace)
-}
-
 // A player's place among the totals.
 fn party(a: u16) -> Result<Below<PLAYERS>, Fault>
     ensures { result ≡ party a }
@@ -62,12 +56,12 @@ pub(crate) fn asked(op: Operation) -> Result<Ask<BoardAsk, BOARDS, PLAYERS>, Fau
     ensures { result ≡ asked op }
 {
     match Kind::try_from(op.kind)? {
-        Kind::Seat => Ok(Ask::Cell(place(op.a)?, seating(op)?)),
+        Kind::Seat => Ok(Ask::Cell(below_or(op.a, Fault::NoPlace)?, seating(op)?)),
         Kind::Enter => Ok(Ask::Cell(
-            place(op.a)?,
+            below_or(op.a, Fault::NoPlace)?,
             BoardAsk::Enter(op.b, Outcome::try_from(op.c).ok()),
         )),
-        Kind::Read => Ok(Ask::Cell(place(op.a)?, BoardAsk::Read)),
+        Kind::Read => Ok(Ask::Cell(below_or(op.a, Fault::NoPlace)?, BoardAsk::Read)),
         Kind::Close => Ok(Ask::Close(op.a)),
         Kind::Total => Ok(Ask::Total(party(op.a)?)),
     }
@@ -81,7 +75,7 @@ pub(crate) fn keys(op: Operation) -> u64
         return 0;
     };
     match kind {
-        Kind::Seat | Kind::Enter | Kind::Read => match place(op.a) {
+        Kind::Seat | Kind::Enter | Kind::Read => match below_or::<BOARDS>(op.a, Fault::NoPlace) {
             Ok(board) => 1 << board.get(),
             Err(_) => 0,
         },
