@@ -1,30 +1,12 @@
 -- What an operation asks of the book of bridge, as far as its own numbers tell, and its keys.
-use Rattle.std.specs.Prelude.{◌≡◌, ℕ, ◌+◌, ◌%◌, ◌^◌, Bool, cond, ◌&&◌, ◌||◌, ℤ, Ok, Err, Result, ◌==◌, nat_le, unsigned_abs}
+use Rattle.std.specs.Prelude.{ℕ, ◌+◌, ◌%◌, ◌^◌, Bool, cond, ◌&&◌, ◌||◌, ℤ, Ok, Err, Result, ◌==◌, nat_le, unsigned_abs}
 use Rattle.bridge.specs.declared.asking.DealAsk.{DealAsk}
 use Rattle.bridge.specs.declared.asking.DealAsk.TheVariants.{Score, Read}
-use Rattle.bridge.specs.declared.asking.Kind.{Kind}
-use Rattle.bridge.specs.declared.asking.Kind.TheVariants as kinds
 use Rattle.records.specs.declared.Operation.{Operation}
 use Rattle.rounds.specs.declared.Fault.{Fault}
 use Rattle.rounds.specs.declared.asks.Ask.{Ask as AskOf}
 use Rattle.rounds.specs.declared.asks.Ask.TheVariants.{Cell, Close, Total}
 use Rattle.rounds.specs.declared.Fault.TheVariants.{NoPlace, NoParty, BadResult, UnknownKind}
-
-abbrev pub kind_number : Kind → ℕ
-kind_number kinds.Score = 32
-kind_number kinds.Read = 33
-kind_number kinds.Close = 34
-kind_number kinds.Total = 35
-
-abbrev pub kind_of : ℕ → Result Kind Fault
-kind_of n =
-    cond (n == 32) (Ok kinds.Score)
-    (cond (n == 33) (Ok kinds.Read)
-    (cond (n == 34) (Ok kinds.Close)
-    (cond (n == 35) (Ok kinds.Total) (Err UnknownKind))))
-
-abbrev pub ReadsKind : ℕ → Result Kind Fault → Type 0
-ReadsKind n r = r ≡ kind_of n
 
 -- a score is at most 7600 either way, and a multiple of 10
 abbrev pub fair : ℤ → Bool
@@ -35,11 +17,6 @@ abbrev pub Ask : Type 0
 Ask = AskOf DealAsk 16 16
 
 -- deals 0 to 15, and pairs 0 to 7 of either side
-abbrev pub place : ℕ → Result ℕ Fault
-place n = cond (nat_le n 15) (Ok n) (Err NoPlace)
-
-abbrev pub party : ℕ → Result ℕ Fault
-party n = cond (nat_le n 7) (Ok n) (Err NoParty)
 
 -- kind 32: score c on deal a, of North-South pair b against East-West pair d
 abbrev pub asked_score : Operation → Result Ask Fault

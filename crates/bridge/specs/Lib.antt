@@ -1,4 +1,5 @@
 -- The book of bridge.
+pub mod Kinds
 pub mod Asking
 pub mod Points
 pub mod Rules

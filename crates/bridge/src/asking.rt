@@ -1,43 +1,11 @@
 // What an operation asks of the book of bridge, as far as its own numbers tell.
 ghost use Rattle.std.specs.Prelude.{◌≡◌};
-ghost use Rattle.bridge.specs.Asking.{fair, place, party, asked_score, asked_line, asked, keys as keys_needed, kind_number, ReadsKind};
+ghost use Rattle.bridge.specs.Asking.{fair, asked_score, asked_line, asked, keys as keys_needed};
 
+use super::kinds::Kind;
 use super::sheet::{DEALS, Entry, PAIRS, TOTALS};
 use records::{Below, Operation};
-use rounds::Fault;
-
-// The kinds of operations by their numbers.
-#[derive(Clone, Copy, Debug, PartialEq, Eq, Hash)]
-pub enum Kind {
-    Score = 32,
-    Read = 33,
-    Close = 34,
-    Total = 35,
-}
-
-impl TryFrom<u8> for Kind {
-    type Error = Fault;
-
-    ghost try_from_gives = { ReadsKind };
-
-    fn try_from(number: u8) -> Result<Kind, Fault> {
-        match number {
-            32 => Ok(Kind::Score),
-            33 => Ok(Kind::Read),
-            34 => Ok(Kind::Close),
-            35 => Ok(Kind::Total),
-            _ => Err(Fault::UnknownKind),
-        }
-    }
-}
-
-impl From<Kind> for u8 {
-    ghost from_gives = { λ kind number. number ≡ kind_number kind };
-
-    fn from(kind: Kind) -> u8 {
-        kind as u8
-    }
-}
+use rounds::{Fault, below_or};
 
 // The largest score of a deal, for either side.
 const LARGEST: u32 = 7600;
@@ -64,24 +32,12 @@ fn is_fair(score: i32) -> bool
     size <= LARGEST && size % STEP == 0
 }
 
-fn place(number: u16) -> Result<Below<DEALS>, Fault>
-    ensures { result ≡ place number }
-{
-    Below::new(usize::from(number)).ok_or(Fault::NoPlace)
-}
-
-fn party(number: u16) -> Result<Below<PAIRS>, Fault>
-    ensures { result ≡ party number }
-{
-    Below::new(usize::from(number)).ok_or(Fault::NoParty)
-}
-
 fn ask_score(op: Operation) -> Result<Ask, Fault>
     ensures { result ≡ asked_score op }
 {
-    let deal = place(op.a)?;
-    let north_south = party(op.b)?;
-    let pair = party(op.d)?;
+    let deal = below_or(op.a, Fault::NoPlace)?;
+    let north_south = below_or(op.b, Fault::NoParty)?;
+    let pair = below_or(op.d, Fault::NoParty)?;
     if !is_fair(op.c) {
         return Err(Fault::BadResult);
     }
@@ -94,8 +50,8 @@ fn ask_score(op: Operation) -> Result<Ask, Fault>
 fn ask_line(op: Operation) -> Result<Ask, Fault>
     ensures { result ≡ asked_line op }
 {
-    let deal = place(op.a)?;
-    let north_south = party(op.b)?;
+    let deal = below_or(op.a, Fault::NoPlace)?;
+    let north_south = below_or(op.b, Fault::NoParty)?;
     Ok(Ask::Cell(deal, DealAsk::Read(north_south)))
 }
 
@@ -107,7 +63,7 @@ pub(crate) fn asked(op: Operation) -> Result<Ask, Fault>
         Kind::Score => ask_score(op),
         Kind::Read => ask_line(op),
         Kind::Close => Ok(Ask::Close(op.a)),
-        Kind::Total => Ok(Ask::Total(Below::new(usize::from(op.a)).ok_or(Fault::NoParty)?)),
+        Kind::Total => Ok(Ask::Total(below_or(op.a, Fault::NoParty)?)),
     }
 }
 
@@ -119,7 +75,7 @@ pub(crate) fn keys(op: Operation) -> u64
         return 0;
     };
     match kind {
-        Kind::Score | Kind::Read => match place(op.a) {
+        Kind::Score | Kind::Read => match below_or::<DEALS>(op.a, Fault::NoPlace) {
             Ok(deal) => 1 << deal.get(),
             Err(_) => 0,
         },

@@ -1,11 +1,10 @@
 -- A game gives out one point: what the players gain from a closed round, summed over players and over boards.
-use Rattle.std.proofs.Common.{◌≡◌, ℕ, ◌+◌, ◌-◌, ◌*◌, ◌<◌, ◌≤◌, true, false, cond, not, ◌&&◌, eqb, leb, List, [], ◌∷◌, length, get_or, ℤ, Some, None, Ok, Err, fold, Option, Result, sym, refl, ap, ◌∙◌, subst, inl, inr, arith}
+use Rattle.std.proofs.Common.{◌≡◌, ℕ, ◌+◌, ◌-◌, ◌*◌, ◌<◌, ◌≤◌, true, false, cond, ◌&&◌, eqb, leb, List, [], ◌∷◌, length, get_or, ℤ, Some, None, Ok, Err, fold, Option, Result, sym, refl, ap, ◌∙◌, subst, inl, inr, arith}
 use Rattle.book.proofs.Below.{get_or-table, sum_same, sum_zero, sum_add, sum_times, sum_swap, sum_one, not_all_at}
 use Rattle.book.proofs.Tables.{set_keeps}
 use Rattle.book.specs.Below.{sum_below, some_below, all_below}
-use Rattle.book.specs.Numbers.{natural}
-use Rattle.chess.specs.Asking.{Asked, player, outcome, seating, of_cell, at_board, of_board, asked}
-use Rattle.chess.specs.Laws.{chess_fits}
+use Rattle.chess.specs.Asking.{Asked, player, at_board, asked}
+use Rattle.chess.specs.Laws.{Player, FairSeat, asked_by, chess_fits}
 use Rattle.chess.specs.Page.{chess, ChessSheet, blank}
 use Rattle.chess.specs.Promises.{played, points_in_all, games, GamesGiveAPoint, PointsStayElse}
 use Rattle.chess.specs.Rules.{empty, with_result, seated, finished_game, white_points, black_points, game_gain}
@@ -24,15 +23,10 @@ use Rattle.rounds.specs.Sheets.{cell, used_at, settled_at, closable, gain_at, ga
 use Rattle.rounds.specs.Sizes.{sized_after, sized_blank}
 use Rattle.rounds.specs.Totals.{get_or-replicate_same}
 use Rattle.rounds.specs.declared.Fault.{Fault}
-use Rattle.rounds.specs.declared.Fault.TheVariants.{NoParty, NoPlace, NotClosable, UnknownKind}
+use Rattle.rounds.specs.declared.Fault.TheVariants.{NoParty, NotClosable, UnknownKind}
 use Rattle.rounds.specs.declared.asks.Ask.{Ask}
 use Rattle.rounds.specs.declared.asks.Ask.TheVariants.{Cell, Close, Total}
-use Rattle.std.proofs.lemmas.Bool.{cases_Bool, cases_eq, cond-true, cond-false, cond_both, and_parts, leb-true, eqb-true, eq-eqb, ne_eqb, both_ways, false≢true}
-
--- whoever is seated is one of the players 1 to 64
-pub record Player (n : ℕ) : Type 0 where
-  pub low : 1 ≤ n
-  pub high : n ≤ 64
+use Rattle.std.proofs.lemmas.Bool.{cases_Bool, cases_eq, cond-true, cond-false, and_parts, eq-eqb, ne_eqb, both_ways, false≢true}
 
 abbrev FairGame : Option Game → Type 0
 FairGame None = Unit {0}
@@ -41,45 +35,14 @@ FairGame (Some g) = Player g.white × Player g.black
 abbrev Fair : Board → Type 0
 Fair x = FairGame x.game
 
-abbrev FairSeat : BoardAsk → Type 0
-FairSeat (Seat white black) = Player white × Player black
-FairSeat (Enter round result) = Unit {0}
-FairSeat Read = Unit {0}
-
 abbrev FairAsk : Asked → Type 0
 FairAsk (Ok (Cell a ask)) = FairSeat ask
 FairAsk (Ok (Close round)) = Unit {0}
 FairAsk (Ok (Total i)) = Unit {0}
 FairAsk (Err fault) = Unit {0}
 
-is_player : (n : ℕ) → player n ≡ true → Player n
-is_player n h = let both = and_parts (leb 1 n) (leb n 64) h in record { low = leb-true 1 n both.0; high = leb-true n 64 both.1 }
-
-abbrev FairSeating : ℕ → Result BoardAsk Fault → Type 0
-FairSeating a r = FairAsk (of_cell a r)
-
-seat_fair : (o : Operation) → FairSeating o.a (seating o)
-seat_fair o =
-    let other = not (eqb o.b (natural o.c)) in
-    cond_both (player o.b && (player (natural o.c) && other)) (Ok (Seat o.b (natural o.c))) (Err NoParty) (FairSeating o.a)
-    (λ h.
-    let one = and_parts (player o.b) (player (natural o.c) && other) h in
-    (is_player o.b one.0, is_player (natural o.c) (and_parts (player (natural o.c)) other one.1).0))
-    (λ _. tt)
-
 ask_fair : (o : Operation) → FairAsk (asked o)
-ask_fair o =
-    cond_both (of_board o) (at_board o) _ FairAsk
-    (λ _. cond_both (leb o.a 31) _ (Err NoPlace) FairAsk
-    (λ _. cond_both (eqb o.kind 16) (of_cell o.a (seating o)) _ FairAsk
-    (λ _. seat_fair o)
-    (λ _. cond_both (eqb o.kind 17) (Ok (Cell o.a (Enter o.b (outcome o.c)))) (Ok (Cell o.a Read)) FairAsk (λ _. tt) (λ _. tt)))
-    (λ _. tt))
-    (λ _. cond_both (eqb o.kind 19) (Ok (Close o.a)) _ FairAsk
-    (λ _. tt)
-    (λ _. cond_both (eqb o.kind 20) _ (Err UnknownKind) FairAsk
-    (λ _. cond_both (player o.a) (Ok (Total (o.a - 1))) (Err NoParty) FairAsk (λ _. tt) (λ _. tt))
-    (λ _. tt)))
+ask_fair o = asked_by o FairAsk (λ _. tt) (λ _ _ _ fair. fair) (λ _. tt) (λ _. tt)
 
 abbrev AllFair : ChessSheet → Type 0
 AllFair s = (a : ℕ) → Fair (cell chess s a)
@@ -197,23 +160,8 @@ games_give_a_point_lem os o closing done =
     ap points_in_all (after_closing s o closing done) ∙ closed_points s p (all_in s o closing done)
 
 -- only kind 19 asks to close
-seat_closes : (o : Operation) (r : Result BoardAsk Fault) → Closes 19 o (of_cell o.a r)
-seat_closes o (Ok ask) = tt
-seat_closes o (Err fault) = tt
-
 closes : (o : Operation) → Closes 19 o (asked o)
-closes o =
-    cond_both (of_board o) (at_board o) _ (Closes 19 o)
-    (λ _. cond_both (leb o.a 31) _ (Err NoPlace) (Closes 19 o)
-    (λ _. cond_both (eqb o.kind 16) (of_cell o.a (seating o)) _ (Closes 19 o)
-    (λ _. seat_closes o (seating o))
-    (λ _. cond_both (eqb o.kind 17) (Ok (Cell o.a (Enter o.b (outcome o.c)))) (Ok (Cell o.a Read)) (Closes 19 o) (λ _. tt) (λ _. tt)))
-    (λ _. tt))
-    (λ _. cond_both (eqb o.kind 19) (Ok (Close o.a)) _ (Closes 19 o)
-    (λ kind. eqb-true o.kind 19 kind)
-    (λ _. cond_both (eqb o.kind 20) _ (Err UnknownKind) (Closes 19 o)
-    (λ _. cond_both (player o.a) (Ok (Total (o.a - 1))) (Err NoParty) (Closes 19 o) (λ _. tt) (λ _. tt))
-    (λ _. tt)))
+closes o = asked_by o (Closes 19 o) (λ _. tt) (λ _ _ _ _. tt) (λ kind. kind) (λ _. tt)
 
 pub points_stay_else : PointsStayElse
 points_stay_else s o other = totals_stay chess 19 s o other (closes o)

@@ -31,10 +31,6 @@ outcome c = cond (natural c == 1) (Some White) (cond (natural c == 2) (Some Draw
 abbrev pub ReadsOutcome : ℤ → Result Outcome Fault → Type 0
 ReadsOutcome c r = r ≡ ok_or (outcome c) BadResult
 
--- boards are numbered from 0
-abbrev pub place : ℕ → Result ℕ Fault
-place a = cond (nat_le a 31) (Ok a) (Err NoPlace)
-
 -- the total of player n is total n - 1
 abbrev pub party : ℕ → Result ℕ Fault
 party n = cond (player n) (Ok (n - 1)) (Err NoParty)
@@ -50,7 +46,7 @@ abbrev pub of_cell : ℕ → Result BoardAsk Fault → Asked
 of_cell a (Ok ask) = Ok (Cell a ask)
 of_cell a (Err fault) = Err fault
 
--- kinds 16 to 18 are asked of board a
+-- kinds 16 to 18 are asked of board a; boards are numbered from 0
 abbrev pub at_board : Operation → Asked
 at_board o =
     cond (nat_le o.a 31)

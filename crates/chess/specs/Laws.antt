@@ -1,14 +1,14 @@
 -- What the book of chess shows of its boards, so that it keeps the law of books.
-use Rattle.std.specs.Prelude.{◌≡◌, ℕ, ◌+◌, ◌<◌, ◌≤◌, ◌^◌, ◌-◌, true, cond, length, pos, Some, None, Ok, Err, Option, Result, ◌==◌, nat_le, false, refl}
+use Rattle.std.specs.Prelude.{◌≡◌, ℕ, ◌+◌, ◌<◌, ◌≤◌, ◌^◌, ◌-◌, true, cond, not, ◌&&◌, length, pos, Some, None, Ok, Err, Option, ◌==◌, nat_le, refl}
 use Rattle.std.proofs.Common.{ap, ap₂, sym, subst, ◌∙◌, arith}
 use Rattle.book.proofs.Keys.{Held, held_one, held_below}
 use Rattle.book.specs.Model.{Page}
-use Rattle.book.specs.Numbers.{at}
+use Rattle.book.specs.Numbers.{natural, at}
 use Rattle.chess.specs.Asking.{Asked, player, outcome, seating, at_board, of_board, of_cell, asked, keys}
 use Rattle.chess.specs.Page.{game_numbers, board_numbers, board_from, read_board, chess}
 use Rattle.chess.specs.Rules.{result_number, white_points, black_points, game_gain}
 use Rattle.chess.specs.declared.asking.BoardAsk.{BoardAsk}
-use Rattle.chess.specs.declared.asking.BoardAsk.TheVariants.{Enter, Read}
+use Rattle.chess.specs.declared.asking.BoardAsk.TheVariants.{Seat, Enter, Read}
 use Rattle.chess.specs.declared.sheet.Board.{Board}
 use Rattle.chess.specs.declared.sheet.Game.{Game}
 use Rattle.chess.specs.declared.sheet.Outcome.{Outcome}
@@ -18,7 +18,7 @@ use Rattle.rounds.specs.Fits.{Covers, Fits}
 use Rattle.rounds.specs.declared.Fault.{Fault}
 use Rattle.rounds.specs.declared.Fault.TheVariants.{NoPlace, NoParty, UnknownKind}
 use Rattle.rounds.specs.declared.asks.Ask.TheVariants.{Cell, Close, Total}
-use Rattle.std.proofs.lemmas.Bool.{cond_both, leb-true, cond-true, cond-false}
+use Rattle.std.proofs.lemmas.Bool.{cond_both, leb-true, eqb-true, and_parts, cond-true}
 
 outcome_again : (r : Option Outcome) → outcome (pos (result_number r)) ≡ r
 outcome_again None = refl
@@ -61,46 +61,63 @@ gain_few n (Some g) =
     let black : cond (g.black == n) (black_points g.result) 0 ≤ 2 = cond_both (g.black == n) _ 0 (λ k. k ≤ 2) (λ _. black_few g.result) (λ _. omega arith) in
     omega arith
 
-board_keys : (o : Operation) → of_board o ≡ true → nat_le o.a 31 ≡ true → keys o ≡ 2 ^ o.a
-board_keys o board low = cond-true (of_board o) _ _ board ∙ cond-true (nat_le o.a 31) (2 ^ o.a) 0 low
+-- Whoever is seated is one of the players 1 to 64.
+pub record Player (n : ℕ) : Type 0 where
+  pub low : 1 ≤ n
+  pub high : n ≤ 64
 
-close_keys : (o : Operation) → of_board o ≡ false → (o.kind == 19) ≡ true → keys o ≡ 2 ^ 33 - 1
-close_keys o other close = cond-false (of_board o) _ _ other ∙ cond-true (o.kind == 19) (2 ^ 33 - 1) _ close
+abbrev pub FairSeat : BoardAsk → Type 0
+FairSeat (Seat white black) = Player white × Player black
+FairSeat (Enter round result) = Unit {0}
+FairSeat Read = Unit {0}
 
-total_keys : (o : Operation) → of_board o ≡ false → (o.kind == 19) ≡ false → (o.kind == 20) ≡ true → keys o ≡ 2 ^ 32
-total_keys o other open_round total = cond-false (of_board o) _ _ other ∙ cond-false (o.kind == 19) (2 ^ 33 - 1) _ open_round ∙ cond-true (o.kind == 20) (2 ^ 32) 0 total
+is_player : (n : ℕ) → player n ≡ true → Player n
+is_player n h = let both = and_parts (nat_le 1 n) (nat_le n 64) h in record { low = leb-true 1 n both.0; high = leb-true n 64 both.1 }
 
-abbrev Covered : Operation → Asked → Type 0
-Covered o = Covers (keys o)
+-- What an operation asks, case by case of its kind.
+module _ (o : Operation) (P : Asked → Type 0) (refused : (fault : Fault) → P (Err fault)) where
+  seated_by : ((ask : BoardAsk) → FairSeat ask → P (Ok (Cell o.a ask))) → P (of_cell o.a (seating o))
+  seated_by board =
+      let other = not (o.b == natural o.c) in
+      cond_both (player o.b && (player (natural o.c) && other)) (Ok (Seat o.b (natural o.c))) (Err NoParty) (λ r. P (of_cell o.a r))
+      (λ h.
+      let one = and_parts (player o.b) (player (natural o.c) && other) h in
+      board (Seat o.b (natural o.c)) (is_player o.b one.0, is_player (natural o.c) (and_parts (player (natural o.c)) other one.1).0))
+      (λ _. refused NoParty)
 
-seat_covers : (o : Operation) (r : Result BoardAsk Fault) → o.a < 32 → Held (keys o) o.a → Covered o (of_cell o.a r)
-seat_covers o (Ok ask) there key = (there, key)
-seat_covers o (Err fault) there key = tt
+  pub asked_by : (of_board o ≡ true → nat_le o.a 31 ≡ true → (ask : BoardAsk) → FairSeat ask → P (Ok (Cell o.a ask)))
+      → (o.kind ≡ 19 → P (Ok (Close o.a))) → (o.kind ≡ 20 → P (Ok (Total (o.a - 1)))) → P (asked o)
+  asked_by board close total =
+      cond_both (of_board o) (at_board o) _ P
+      (λ kind. cond_both (nat_le o.a 31) _ (Err NoPlace) P
+      (λ low. cond_both (o.kind == 16) (of_cell o.a (seating o)) _ P
+      (λ _. seated_by (board kind low))
+      (λ _. cond_both (o.kind == 17) (Ok (Cell o.a (Enter o.b (outcome o.c)))) (Ok (Cell o.a Read)) P (λ _. board kind low (Enter o.b (outcome o.c)) tt) (λ _. board kind low Read tt)))
+      (λ _. refused NoPlace))
+      (λ _. cond_both (o.kind == 19) (Ok (Close o.a)) _ P
+      (λ kind. close (eqb-true o.kind 19 kind))
+      (λ _. cond_both (o.kind == 20) _ (Err UnknownKind) P
+      (λ kind. cond_both (player o.a) (Ok (Total (o.a - 1))) (Err NoParty) P (λ _. total (eqb-true o.kind 20 kind)) (λ _. refused NoParty))
+      (λ _. refused UnknownKind)))
 
-board_covers : (o : Operation) → of_board o ≡ true → Covered o (at_board o)
-board_covers o board =
-    cond_both (nat_le o.a 31) _ (Err NoPlace) (Covered o)
-    (λ low.
-    let there : o.a < 32 = omega (arith, leb-true o.a 31 low) in
-    let key : Held (keys o) o.a = subst (λ set. Held set o.a) (sym (board_keys o board low)) (held_one o.a) in
-    cond_both (o.kind == 16) (of_cell o.a (seating o)) _ (Covered o)
-    (λ _. seat_covers o (seating o) there key)
-    (λ _. cond_both (o.kind == 17) (Ok (Cell o.a (Enter o.b (outcome o.c)))) (Ok (Cell o.a Read)) (Covered o) (λ _. (there, key)) (λ _. (there, key))))
-    (λ _. tt)
+-- Keys cover what is asked.
+board_keys : (o : Operation) → of_board o ≡ true → nat_le o.a 31 ≡ true → Held (keys o) o.a
+board_keys o board low = subst (λ set. Held set o.a) (sym (cond-true (of_board o) _ _ board ∙ cond-true (nat_le o.a 31) (2 ^ o.a) 0 low)) (held_one o.a)
 
-covers : (o : Operation) → Covered o (asked o)
+close_keys : (o : Operation) → o.kind ≡ 19 → keys o ≡ 2 ^ 33 - 1
+close_keys o kind = ap (λ k. cond (nat_le 16 k && nat_le k 18) (cond (nat_le o.a 31) (2 ^ o.a) 0) (cond (k == 19) (2 ^ 33 - 1) (cond (k == 20) (2 ^ 32) 0))) kind
+
+total_keys : (o : Operation) → o.kind ≡ 20 → keys o ≡ 2 ^ 32
+total_keys o kind = ap (λ k. cond (nat_le 16 k && nat_le k 18) (cond (nat_le o.a 31) (2 ^ o.a) 0) (cond (k == 19) (2 ^ 33 - 1) (cond (k == 20) (2 ^ 32) 0))) kind
+
+covers : (o : Operation) → Covers (keys o) (asked o)
 covers o =
-    cond_both (of_board o) (at_board o) _ (Covered o)
-    (λ board. board_covers o board)
-    (λ other. cond_both (o.kind == 19) (Ok (Close o.a)) _ (Covered o)
-    (λ close.
-    let each : (k : ℕ) → k < 33 → Held (keys o) k = λ k l. subst (λ set. Held set k) (sym (close_keys o other close)) (held_below (2 ^ 33 - 1) 33 refl k l) in
+    asked_by o (Covers (keys o)) (λ _. tt)
+    (λ board low ask _. (omega (arith, leb-true o.a 31 low), board_keys o board low))
+    (λ kind.
+    let each : (k : ℕ) → k < 33 → Held (keys o) k = λ k l. subst (λ set. Held set k) (sym (close_keys o kind)) (held_below (2 ^ 33 - 1) 33 refl k l) in
     (λ k l. each k (omega (arith, l)), each 32 (omega arith)))
-    (λ on. cond_both (o.kind == 20) _ (Err UnknownKind) (Covered o)
-    (λ total. cond_both (player o.a) (Ok (Total (o.a - 1))) (Err NoParty) (Covered o)
-    (λ _. subst (λ set. Held set 32) (sym (total_keys o other on total)) (held_one 32))
-    (λ _. tt))
-    (λ _. tt)))
+    (λ kind. subst (λ set. Held set 32) (sym (total_keys o kind)) (held_one 32))
 
 pub chess_fits : Fits 1 chess
 chess_fits = record {

@@ -1,12 +1,12 @@
 // What an operation asks of the book of chess, as far as its own numbers tell.
 ghost use Rattle.std.specs.Prelude.{◌≡◌, ok_or};
 ghost use Rattle.book.specs.Numbers.{natural as natural_part};
-ghost use Rattle.chess.specs.Asking.{player, place, party, seating, at_board, asked, keys as keys_needed};
+ghost use Rattle.chess.specs.Asking.{player, party, seating, at_board, asked, keys as keys_needed};
 
 use super::kinds::Kind;
 use super::sheet::{BOARDS, Outcome, PLAYERS};
 use records::{Below, Operation};
-use rounds::{Ask, Fault};
+use rounds::{Ask, Fault, below_or};
 
 // What is asked of a board.
 #[derive(Clone, Copy, Debug, PartialEq, Eq, Hash)]
@@ -31,12 +31,6 @@ fn is_player(n: usize) -> bool
     n >= 1 && n <= PLAYERS
 }
 
-fn place(a: u16) -> Result<Below<BOARDS>, Fault>
-    ensures { result ≡ place a }
-{
-    Below::new(usize::from(a)).ok_or(Fault::NoPlace)
-}
-
 // A player's place among the totals.
 fn party(a: u16) -> Result<Below<PLAYERS>, Fault>
     ensures { result ≡ party a }
@@ -44,7 +38,7 @@ fn party(a: u16) -> Result<Below<PLAYERS>, Fault>
     if a == 0 {
         return Err(Fault::NoParty);
     }
-    Below::new(usize::from(a) - 1).ok_or(Fault::NoParty)
+    below_or(a - 1, Fault::NoParty)
 }
 
 fn seating(op: Operation) -> Result<BoardAsk, Fault>
@@ -62,12 +56,12 @@ pub(crate) fn asked(op: Operation) -> Result<Ask<BoardAsk, BOARDS, PLAYERS>, Fau
     ensures { result ≡ asked op }
 {
     match Kind::try_from(op.kind)? {
-        Kind::Seat => Ok(Ask::Cell(place(op.a)?, seating(op)?)),
+        Kind::Seat => Ok(Ask::Cell(below_or(op.a, Fault::NoPlace)?, seating(op)?)),
         Kind::Enter => Ok(Ask::Cell(
-            place(op.a)?,
+            below_or(op.a, Fault::NoPlace)?,
             BoardAsk::Enter(op.b, Outcome::try_from(op.c).ok()),
         )),
-        Kind::Read => Ok(Ask::Cell(place(op.a)?, BoardAsk::Read)),
+        Kind::Read => Ok(Ask::Cell(below_or(op.a, Fault::NoPlace)?, BoardAsk::Read)),
         Kind::Close => Ok(Ask::Close(op.a)),
         Kind::Total => Ok(Ask::Total(party(op.a)?)),
     }
@@ -77,13 +71,15 @@ pub(crate) fn asked(op: Operation) -> Result<Ask<BoardAsk, BOARDS, PLAYERS>, Fau
 pub(crate) fn keys(op: Operation) -> u64
     ensures { result ≡ keys_needed op }
 {
-    match Kind::try_from(op.kind) {
-        Ok(Kind::Seat | Kind::Enter | Kind::Read) => match place(op.a) {
+    let Ok(kind) = Kind::try_from(op.kind) else {
+        return 0;
+    };
+    match kind {
+        Kind::Seat | Kind::Enter | Kind::Read => match below_or::<BOARDS>(op.a, Fault::NoPlace) {
             Ok(board) => 1 << board.get(),
             Err(_) => 0,
         },
-        Ok(Kind::Close) => 0x1_ffff_ffff,
-        Ok(Kind::Total) => 1 << 32,
-        Err(_) => 0,
+        Kind::Close => 0x1_ffff_ffff,
+        Kind::Total => 1 << 32,
     }
 }

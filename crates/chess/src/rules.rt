@@ -24,25 +24,17 @@ fn number_of(ended: Option<Outcome>) -> u8
     ended.map_or(0, u8::from)
 }
 
-fn points_of_white(ended: Option<Outcome>) -> u32
-    ensures value { result ≡ white_points ended }
-    ensures few { result ≤ 2 }
+// The half points of white and of black.
+fn points_of(ended: Option<Outcome>) -> (u32, u32)
+    ensures white { result.0 ≡ white_points ended }
+    ensures black { result.1 ≡ black_points ended }
+    ensures few { (result.0 ≤ 2) × (result.1 ≤ 2) }
 {
     match ended {
-        Some(Outcome::White) => 2,
-        Some(Outcome::Draw) => 1,
-        Some(Outcome::Black) | None => 0,
-    }
-}
-
-fn points_of_black(ended: Option<Outcome>) -> u32
-    ensures value { result ≡ black_points ended }
-    ensures few { result ≤ 2 }
-{
-    match ended {
-        Some(Outcome::Black) => 2,
-        Some(Outcome::Draw) => 1,
-        Some(Outcome::White) | None => 0,
+        Some(Outcome::White) => (2, 0),
+        Some(Outcome::Draw) => (1, 1),
+        Some(Outcome::Black) => (0, 2),
+        None => (0, 0),
     }
 }
 
@@ -138,12 +130,13 @@ impl Cell<BOARDS, PLAYERS> for Board {
         let Some(game) = self.game else {
             return 0;
         };
+        let (white, black) = points_of(game.result);
         let mut points = 0;
-        if usize::from(game.white) == total + 1 {
-            points += points_of_white(game.result);
+        if usize::from(game.white).checked_sub(1) == Some(total) {
+            points += white;
         }
-        if usize::from(game.black) == total + 1 {
-            points += points_of_black(game.result);
+        if usize::from(game.black).checked_sub(1) == Some(total) {
+            points += black;
         }
         points
     }

@@ -51,7 +51,8 @@ impl fmt::Display for Outcome {
     }
 }
 
-// The players by their numbers, and how their game ended if it has.
+// The players by their numbers, and how their game ended if it has. Players count from 1, so that none is a number
+// below a limit as a bridge pair is.
 #[derive(Clone, Copy, Debug, PartialEq, Eq, Hash)]
 pub struct Game {
     pub white: u8,
@@ -59,7 +60,8 @@ pub struct Game {
     pub result: Option<Outcome>,
 }
 
-// A board, with the game that is seated at it if there is one.
+// A board, with the game that is seated at it if there is one; a struct, since an `Option` cannot have `Cell`, which is
+// of another crate.
 #[derive(Clone, Copy, Debug, PartialEq, Eq, Hash)]
 pub struct Board {
     pub game: Option<Game>,

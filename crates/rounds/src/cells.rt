@@ -1,5 +1,5 @@
 // The cells of a sheet: the boards of chess or the deals of bridge.
-ghost use Rattle.std.specs.Prelude.{◌≡◌, ℕ, ◌<◌, ◌≤◌};
+ghost use Rattle.std.specs.Prelude.{◌≡◌, ℕ, ◌≤◌};
 ghost use Rattle.rounds.specs.Games.{Game};
 ghost use Rattle.rounds.specs.Fits.{Fits};
 ghost use Rattle.rounds.specs.Rooms.{AskFitsInMemory};
@@ -8,7 +8,7 @@ use super::Fault;
 use super::asks::Ask;
 use records::Operation;
 
-// A board or a deal.
+// A board or a deal, and what its game says of it; `Kept` makes the sheet of a hall of that.
 pub trait Cell<const CELLS: usize, const TOTALS: usize>: Copy {
     // what can be asked of it
     type Ask: Copy;
@@ -48,7 +48,6 @@ pub trait Cell<const CELLS: usize, const TOTALS: usize>: Copy {
 
     // What a total gains here.
     fn gain(&self, total: usize) -> u32
-        requires { total < TOTALS }
         ensures value { result ≡ game.gain total self.now }
         ensures few { result ≤ game.most };
 

@@ -2,7 +2,8 @@
 // closing of a round.
 #![tactic(auto)]
 
-ghost use Rattle.std.specs.Prelude.{◌≡◌};
+ghost use Rattle.std.specs.Prelude.{◌≡◌, ok_or};
+ghost use Rattle.records.specs.Below.{below};
 ghost use Rattle.records.specs.Numbers.{Reads};
 ghost use Rattle.rounds.specs.Faults.{fault_number, fault_of, answered};
 ghost use Rattle.rounds.specs.Rounds.{in_turn};
@@ -13,7 +14,7 @@ mod sheets;
 
 pub use asks::Ask;
 pub use cells::Cell;
-use records::{Answer, UnknownNumber};
+use records::{Answer, Below, UnknownNumber};
 pub use sheets::Kept;
 
 // Why an operation is not done.
@@ -62,6 +63,13 @@ impl TryFrom<u8> for Fault {
             _ => Err(UnknownNumber(cause)),
         }
     }
+}
+
+// The number where it is below N, or else the fault.
+pub fn below_or<const N: usize>(number: u16, fault: Fault) -> Result<Below<N>, Fault>
+    ensures { result ≡ ok_or (below N number) fault }
+{
+    Below::new(usize::from(number)).ok_or(fault)
 }
 
 // The answer to an operation whose number a is `place`: the value of what is well done, or the fault.

@@ -1,5 +1,5 @@
 // The sheet of a hall, and what each operation answers and makes of it.
-ghost use Rattle.std.specs.Prelude.{◌≡◌, ◌<◌, ◌≤◌, true, pos, is_ok, slice_index};
+ghost use Rattle.std.specs.Prelude.{◌≡◌, ◌≤◌, true, pos, is_ok, slice_index};
 ghost use Rattle.book.specs.Below.{some_below, all_below};
 ghost use Rattle.rounds.specs.Kept.{KeptSheet};
 ghost use Rattle.rounds.specs.Laws.{rounds_lawful, sized_own, blank_own};
@@ -11,7 +11,7 @@ use super::asks::Ask;
 use super::cells::Cell;
 use super::{Fault, answer_with, is_in_turn};
 use book::Hall;
-use records::{Answer, Operation};
+use records::{Answer, Below, Operation};
 use std::alloc::AllocError;
 
 #[derive(Clone, Copy)]
@@ -36,7 +36,8 @@ impl<C: Cell<CELLS, TOTALS>, const CELLS: usize, const TOTALS: usize> Sheet<C, C
     fn is_some_used(&self) -> bool
         ensures { result ≡ some_below CELLS (used_at C.game self.now) }
     {
-        // no `any`: the check does not cover a closure over a type parameter's method
+        // no `any`: the borrow checker does not cover a closure over a trait that has a const parameter and an
+        // associated type
         for cell in &self.cells {
             if cell.is_used() {
                 return true;
@@ -65,10 +66,10 @@ impl<C: Cell<CELLS, TOTALS>, const CELLS: usize, const TOTALS: usize> Sheet<C, C
 
     // What a total gains from all cells.
     fn gained(&self, total: usize) -> u32
-        requires { total < TOTALS }
         ensures value { result ≡ gained C.game self.now total }
         ensures few { result ≤ 2048 }
     {
+        // no `sum`: the check does not see that its total fits
         let mut sum = 0;
         for cell in &self.cells {
             sum += cell.gain(total);
@@ -83,7 +84,7 @@ impl<C: Cell<CELLS, TOTALS>, const CELLS: usize, const TOTALS: usize> Sheet<C, C
         ensures { result ≡ raised self.now.totals (gained C.game self.now) }
     {
         let mut totals = self.totals;
-        // by index: after `iter_mut().enumerate()` the check knows nothing of the array
+        // by index: `iter_mut` leaves nothing known of the array, and for `array::from_fn` the check makes no proof
         for i in 0..TOTALS {
             totals[i] += self.gained(i);
         }
@@ -97,7 +98,7 @@ pub struct Kept<C: Cell<CELLS, TOTALS>, const CELLS: usize, const TOTALS: usize>
     ghost kept: { KeptSheet C.game sheet },
 }
 
-// no derive: the check refuses one over a ghost field
+// no derive: the check refuses one over a ghost field of a generic struct
 impl<C: Cell<CELLS, TOTALS>, const CELLS: usize, const TOTALS: usize> Copy
     for Kept<C, CELLS, TOTALS> {}
 
@@ -122,11 +123,10 @@ impl<C: Cell<CELLS, TOTALS>, const CELLS: usize, const TOTALS: usize> Kept<C, CE
         };
     }
 
-    fn total(&self, place: usize) -> i32
-        requires { place < TOTALS }
-        ensures { result ≡ pos (slice_index self.now.sheet.totals place) }
+    fn total(&self, place: Below<TOTALS>) -> i32
+        ensures { result ≡ pos (slice_index self.now.sheet.totals place.entry) }
     {
-        self.sheet.totals[place] as i32
+        self.sheet.totals[place.get()] as i32
     }
 
     // The value of what would be well done, or why it is not done.
@@ -142,7 +142,7 @@ impl<C: Cell<CELLS, TOTALS>, const CELLS: usize, const TOTALS: usize> Kept<C, CE
                     Err(Fault::NotClosable)
                 }
             }
-            Ask::Total(place) => Ok(self.total(place.get())),
+            Ask::Total(place) => Ok(self.total(place)),
         }
     }
 
