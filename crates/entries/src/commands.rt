@@ -91,7 +91,7 @@ pub fn line_after(first: &[u8], rest: &[u8], at: Progress) -> Result<Reading, Mi
 fn hall(rest: &[u8]) -> Result<Reading, Misread>
     ensures { result ≡ hall_line rest.now }
 {
-    let mut words = Words::after_first(rest);
+    let mut words = Words::at(2, rest);
     let number = words.field()?;
     words.end()?;
     Ok(Reading::Hall(number))
@@ -100,7 +100,7 @@ fn hall(rest: &[u8]) -> Result<Reading, Misread>
 fn game(rest: &[u8]) -> Result<Reading, Misread>
     ensures { result ≡ game_line rest.now }
 {
-    let mut words = Words::after_first(rest);
+    let mut words = Words::at(2, rest);
     let word = words.next();
     match game_of(word.text) {
         None => Err(word.misread(Expected::Game)),
@@ -114,7 +114,7 @@ fn game(rest: &[u8]) -> Result<Reading, Misread>
 fn chief(rest: &[u8]) -> Result<Reading, Misread>
     ensures { result ≡ chief_line rest.now }
 {
-    let mut words = Words::after_first(rest);
+    let mut words = Words::at(2, rest);
     let token = words.field()?;
     words.end()?;
     Ok(Reading::Chief(token))
@@ -123,7 +123,7 @@ fn chief(rest: &[u8]) -> Result<Reading, Misread>
 fn bearer(rest: &[u8]) -> Result<Reading, Misread>
     ensures { result ≡ as_line rest.now }
 {
-    let mut words = Words::after_first(rest);
+    let mut words = Words::at(2, rest);
     let bearer = Bearer {
         grant: words.field()?,
         token: words.field()?,
@@ -152,8 +152,9 @@ pub fn total_kind(game: Game) -> u8
     }
 }
 
-// An entry, where no word of its line is left.
-fn entry(operation: Operation, words: Words) -> Result<Reading, Misread>
+// An entry, where no word of its line is left. Each arm below ends by this: where they meet before the end of the line, the
+// check finds no proof.
+fn entry_at_end(operation: Operation, words: Words) -> Result<Reading, Misread>
     requires { words.place < 255 }
     ensures { result ≡ and_then (ended words.entry.place (first_word words.entry.rest.now)) (λ _. Ok (Reading.Entry operation)) }
 {
@@ -161,115 +162,116 @@ fn entry(operation: Operation, words: Words) -> Result<Reading, Misread>
     Ok(Reading::Entry(operation))
 }
 
-// The fields stand here in the order of the line.
+// The fields stand in the order of the line, since each takes the next word.
 fn entry_after(command: Command, rest: &[u8], at: Progress) -> Result<Reading, Misread>
     ensures { result ≡ entry_line at command rest.now }
 {
-    let mut words = Words::after_first(rest);
+    let mut words = Words::at(2, rest);
     let Bearer { grant, token } = at.bearer;
-    let blank = Operation {
+    // an operation of the bearer that asks nothing yet
+    let signed = Operation {
         grant,
         token,
         ..Operation::default()
     };
     match command {
-        Command::Appoint => entry(
+        Command::Appoint => entry_at_end(
             Operation {
                 kind: roll::Kind::Appoint as u8,
                 a: words.field()?,
                 c: words.field::<Count>()?.0,
-                ..blank
+                ..signed
             },
             words,
         ),
-        Command::Remove => entry(
+        Command::Remove => entry_at_end(
             Operation {
                 kind: roll::Kind::Remove as u8,
                 a: words.field()?,
-                ..blank
+                ..signed
             },
             words,
         ),
-        Command::Deputy => entry(
+        Command::Deputy => entry_at_end(
             Operation {
                 kind: roll::Kind::Read as u8,
                 a: words.field()?,
-                ..blank
+                ..signed
             },
             words,
         ),
-        Command::Seat => entry(
+        Command::Seat => entry_at_end(
             Operation {
                 kind: chess::Kind::Seat as u8,
                 a: words.field()?,
                 b: words.field()?,
                 c: words.field::<Count>()?.0,
-                ..blank
+                ..signed
             },
             words,
         ),
-        Command::Result => entry(
+        Command::Result => entry_at_end(
             Operation {
                 kind: chess::Kind::Enter as u8,
                 a: words.field()?,
                 b: words.field()?,
                 c: words.field::<Outcome>()? as i32,
-                ..blank
+                ..signed
             },
             words,
         ),
-        Command::Show => entry(
+        Command::Show => entry_at_end(
             Operation {
                 kind: chess::Kind::Read as u8,
                 a: words.field()?,
-                ..blank
+                ..signed
             },
             words,
         ),
-        Command::Score => entry(
+        Command::Score => entry_at_end(
             Operation {
                 kind: bridge::Kind::Score as u8,
                 a: words.field()?,
                 b: words.field()?,
                 d: words.field()?,
                 c: words.field()?,
-                ..blank
+                ..signed
             },
             words,
         ),
-        Command::Line => entry(
+        Command::Line => entry_at_end(
             Operation {
                 kind: bridge::Kind::Read as u8,
                 a: words.field()?,
                 b: words.field()?,
-                ..blank
+                ..signed
             },
             words,
         ),
-        Command::Close => entry(
+        Command::Close => entry_at_end(
             Operation {
                 kind: close_kind(at.game),
                 a: words.field()?,
-                ..blank
+                ..signed
             },
             words,
         ),
-        Command::Total => entry(
+        Command::Total => entry_at_end(
             Operation {
                 kind: total_kind(at.game),
                 a: words.field()?,
-                ..blank
+                ..signed
             },
             words,
         ),
-        Command::Op => entry(
+        Command::Op => entry_at_end(
             Operation {
                 kind: words.field()?,
                 a: words.field()?,
                 b: words.field()?,
                 c: words.field()?,
                 d: words.field()?,
-                ..blank
+                ..signed
             },
             words,
         ),

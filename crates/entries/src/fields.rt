@@ -52,25 +52,22 @@ fn whole_number(word: &[u8]) -> Option<i32>
 // A type of the values that a word can stand for.
 pub trait Value: Sized {
     // Which field the word is, and the number that a value stands for.
-    ghost field: { Field };
+    const FIELD: Field;
+
+    ghost FIELD: { Field };
 
     ghost number: { Self → ℤ };
 
-    fn field() -> Field
-        ensures { result ≡ field };
-
     fn of(word: &[u8]) -> Option<Self>
-        ensures { option_map number result ≡ value field word.now };
+        ensures { option_map number result ≡ value FIELD word.now };
 }
 
 impl Value for u8 {
-    ghost field = { Field.Byte };
+    const FIELD: Field = Field::Byte;
+
+    ghost FIELD = { Field.Byte };
 
     ghost number = { pos };
-
-    fn field() -> Field {
-        Field::Byte
-    }
 
     fn of(word: &[u8]) -> Option<u8> {
         Some(number_to(u32::from(u8::MAX), word)? as u8)
@@ -78,13 +75,11 @@ impl Value for u8 {
 }
 
 impl Value for u16 {
-    ghost field = { Field.Number };
+    const FIELD: Field = Field::Number;
+
+    ghost FIELD = { Field.Number };
 
     ghost number = { pos };
-
-    fn field() -> Field {
-        Field::Number
-    }
 
     fn of(word: &[u8]) -> Option<u16> {
         Some(number_to(u32::from(u16::MAX), word)? as u16)
@@ -92,13 +87,11 @@ impl Value for u16 {
 }
 
 impl Value for u32 {
-    ghost field = { Field.Token };
+    const FIELD: Field = Field::Token;
+
+    ghost FIELD = { Field.Token };
 
     ghost number = { pos };
-
-    fn field() -> Field {
-        Field::Token
-    }
 
     fn of(word: &[u8]) -> Option<u32> {
         number_to(u32::MAX, word)
@@ -106,31 +99,27 @@ impl Value for u32 {
 }
 
 impl Value for i32 {
-    ghost field = { Field.Whole };
+    const FIELD: Field = Field::Whole;
+
+    ghost FIELD = { Field.Whole };
 
     ghost number = { λ z. z };
-
-    fn field() -> Field {
-        Field::Whole
-    }
 
     fn of(word: &[u8]) -> Option<i32> {
         whole_number(word)
     }
 }
 
-// A number from 0 on.
+// A number from 0 on, as a type of its own: an i32 is any whole number.
 #[derive(Clone, Copy, Debug, PartialEq, Eq, Hash)]
 pub struct Count(pub i32);
 
 impl Value for Count {
-    ghost field = { Field.Count };
+    const FIELD: Field = Field::Count;
+
+    ghost FIELD = { Field.Count };
 
     ghost number = { λ count. count.0 };
-
-    fn field() -> Field {
-        Field::Count
-    }
 
     fn of(word: &[u8]) -> Option<Count> {
         Some(Count(number_to(i32::MAX as u32, word)? as i32))
@@ -138,13 +127,11 @@ impl Value for Count {
 }
 
 impl Value for Outcome {
-    ghost field = { Field.Score };
+    const FIELD: Field = Field::Score;
+
+    ghost FIELD = { Field.Score };
 
     ghost number = { λ outcome. pos (outcome_number outcome) };
-
-    fn field() -> Field {
-        Field::Score
-    }
 
     fn of(word: &[u8]) -> Option<Outcome> {
         match word {
@@ -182,14 +169,14 @@ impl Words<'_> {
     // The next word as a field.
     pub fn field<T: Value>(&mut self) -> Result<T, Misread>
         requires { self.old.place < 255 }
-        ensures value { and_then result (λ v. Ok (T.number v)) ≡ field T.field self.old.place (first_word self.old.rest.now) }
+        ensures value { and_then result (λ v. Ok (T.number v)) ≡ field T.FIELD self.old.place (first_word self.old.rest.now) }
         ensures rest { self.new.rest.now ≡ past_word self.old.rest.now }
         ensures further { self.new.place ≡ self.old.place + 1 }
     {
         let word = self.next();
         match T::of(word.text) {
             Some(value) => Ok(value),
-            None => Err(word.misread(Expected::Value(T::field()))),
+            None => Err(word.misread(Expected::Value(T::FIELD))),
         }
     }
 

@@ -11,10 +11,10 @@ mod words;
 use commands::line_after;
 pub use commands::{close_kind, total_kind};
 use records::Operation;
-use std::error::Error;
 use std::fmt;
-pub use words::Lines;
+use thiserror::Error;
 use words::Words;
+pub use words::{Lines, first_line};
 
 // The game of a sheet.
 #[derive(Clone, Copy, Debug, Default, PartialEq, Eq, Hash)]
@@ -99,20 +99,12 @@ impl fmt::Display for Expected {
 }
 
 // The leftmost word at fault, by its place in the line, counted from 1.
-#[derive(Clone, Copy, Debug, PartialEq, Eq, Hash)]
+#[derive(Clone, Copy, Debug, PartialEq, Eq, Hash, Error)]
+#[error("word {word}: expected {expected}")]
 pub struct Misread {
     pub word: u8,
     pub expected: Expected,
 }
-
-impl fmt::Display for Misread {
-    fn fmt<W: fmt::Write>(&self, f: &mut fmt::Formatter<W>) -> fmt::Result {
-        let Misread { word, expected } = *self;
-        write!(f, "word {word}: expected {expected}")
-    }
-}
-
-impl Error for Misread {}
 
 // What a line says of the sheet or of the entries to come, or the entry that it makes.
 #[derive(Clone, Copy, Debug, PartialEq, Eq, Hash)]
@@ -130,7 +122,7 @@ pub enum Reading {
 pub fn read_line(line: &[u8], at: Progress) -> Result<Option<Reading>, Misread>
     ensures { result ≡ reading line.now at }
 {
-    let mut words = Words::of(line);
+    let mut words = Words::at(1, line);
     let first = words.next();
     match first.text {
         [] | [b'#', ..] => Ok(None),

@@ -4,7 +4,7 @@ ghost use Rattle.std.specs.List.{position_or_len};
 ghost use Rattle.std.specs.Iterator.{YieldsFirstBy, item_count};
 ghost use Rattle.entries.specs.Words.{blank, line_of, rest_of, lines, first_word, past_word};
 
-// How many bytes stand before the first at which `ends` answers true.
+// How many bytes stand before the first at which `ends` answers true, or all of them where there is none.
 fn length_until<F: Fn(u8) -> bool>(text: &[u8], ends: F) -> usize
     requires { F.IsAlwaysCallable ends }
     ensures place { (p : ℕ → Bool) → ((b : ℕ) (r : Bool) → F.post ends b r → r ≡ p b) → result ≡ position_or_len p text.now }
@@ -16,7 +16,7 @@ fn length_until<F: Fn(u8) -> bool>(text: &[u8], ends: F) -> usize
 }
 
 // The first line of a text, and what follows it.
-fn first_line<'a>(text: &'a [u8]) -> (&'a [u8], &'a [u8])
+pub fn first_line<'a>(text: &'a [u8]) -> (&'a [u8], &'a [u8])
     ensures line { result.0.now ≡ line_of text.now }
     ensures rest { result.1.now ≡ rest_of text.now }
 {
@@ -71,22 +71,11 @@ pub struct Words<'a> {
 }
 
 impl<'a> Words<'a> {
-    pub fn of(line: &'a [u8]) -> Words<'a>
-        ensures rest { result.rest.now ≡ line.now }
-        ensures place { result.place ≡ 1 }
-    {
-        Words {
-            rest: line,
-            place: 1,
-        }
-    }
-
-    // The words after the first.
-    pub fn after_first(rest: &'a [u8]) -> Words<'a>
+    pub fn at(place: u8, rest: &'a [u8]) -> Words<'a>
         ensures rest { result.rest.now ≡ rest.now }
-        ensures place { result.place ≡ 2 }
+        ensures place { result.place ≡ place }
     {
-        Words { rest, place: 2 }
+        Words { rest, place }
     }
 
     pub fn next(&mut self) -> Word<'a>
