@@ -22,8 +22,8 @@ fn score_in<B: Book + Drop>(rt: &HostRuntime, mut book: B, text: &[u8]) -> io::R
     print_account(rt, &scored, list.as_slice())
 }
 
-// Scores a sheet in the book that `new` makes, under a roll where the sheet has a chief. The book is made here: a
-// function that names a value of bridge gets no proof in this crate.
+// Scores a sheet in the book that `new` makes, under a roll where the sheet has a chief. The book is made here and not by
+// the caller, since the borrow checker does not find the type bridge::sheet::Entry in this crate.
 fn score_under<B: Book + Drop, N: FnOnce() -> B>(
     rt: &HostRuntime,
     chief: Option<u32>,

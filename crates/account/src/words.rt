@@ -16,6 +16,7 @@ fn words_of_roll(refusal: Refusal) -> &'static str {
     }
 }
 
+// Each book has its own words for the faults that it gives, and none for the others; so Fault has no Display.
 fn words_of_chess(fault: Fault) -> Option<&'static str> {
     Some(match fault {
         Fault::NoPlace => "no such board",

@@ -36,6 +36,7 @@ pub enum Opening {
     Entry(Command),
 }
 
+// An Option and no TryFrom, here and in `opening_of` and `game_of`: what was expected depends on where the word stands.
 fn command_of(word: &[u8]) -> Option<Command>
     ensures { result ≡ entry_word word.now }
 {
@@ -132,7 +133,7 @@ fn bearer(rest: &[u8]) -> Result<Reading, Misread>
     Ok(Reading::As(bearer))
 }
 
-// The kind of the operation that closes a round.
+// The kind of the operation that closes a round: a number, since the kinds of the two books are two types.
 pub fn close_kind(game: Game) -> u8
     ensures { result ≡ close_kind game }
 {
@@ -142,7 +143,7 @@ pub fn close_kind(game: Game) -> u8
     }
 }
 
-// The kind of the operation that reads a total.
+// The kind of the operation that reads a total, a number likewise.
 pub fn total_kind(game: Game) -> u8
     ensures { result ≡ total_kind game }
 {
