@@ -67,7 +67,8 @@ pub(crate) fn asked(op: Operation) -> Result<Ask, Fault>
     }
 }
 
-// The keys that an operation needs: each deal has its own, and key 32 guards the totals.
+// The keys that an operation needs: each deal has its own, and key 32 guards the totals. Chess's are like them; why there are
+// two functions stands there.
 pub(crate) fn keys(op: Operation) -> u64
     ensures { result ≡ keys_needed op }
 {

@@ -67,7 +67,8 @@ pub(crate) fn asked(op: Operation) -> Result<Ask<BoardAsk, BOARDS, PLAYERS>, Fau
     }
 }
 
-// The keys that an operation needs: each board has its own, and key 32 guards the totals.
+// The keys that an operation needs: each board has its own, and key 32 guards the totals. Bridge's are like them; one function
+// of both would be given the kinds that ask something of a cell, and the mask of all cells, and be no plainer.
 pub(crate) fn keys(op: Operation) -> u64
     ensures { result ≡ keys_needed op }
 {

@@ -1,10 +1,10 @@
 // What a line says after its first word.
-ghost use Rattle.std.specs.Prelude.{◌≡◌, ◌<◌, Ok};
+ghost use Rattle.std.specs.Prelude.{◌≡◌, ◌<◌, [], ◌∷◌, Ok};
 ghost use Rattle.entries.specs.Words.{first_word};
 ghost use Rattle.entries.specs.declared.Reading.TheVariants as Reading;
-ghost use Rattle.entries.specs.Reading.{and_then, ended, entry as entry_word, opening, close_kind, total_kind, entry_line, hall_line, chief_line, game_line, as_line, line_says};
+ghost use Rattle.entries.specs.Reading.{and_then, ended, fields, entry as entry_word, opening, close_kind, total_kind, entry_line, hall_line, chief_line, game_line, as_line, line_says};
 
-use crate::fields::{Count, game_of};
+use crate::fields::{Count, Value, game_of};
 use crate::words::Words;
 use crate::{Bearer, Expected, Game, Misread, Progress, Reading};
 use chess::Outcome;
@@ -89,13 +89,20 @@ pub fn line_after(first: &[u8], rest: &[u8], at: Progress) -> Result<Reading, Mi
     }
 }
 
+// The one field of a line.
+fn only<T: Value + Drop>(rest: &[u8]) -> Result<T, Misread>
+    ensures { and_then result (λ v. Ok (T.number v ∷ [])) ≡ fields (T.FIELD ∷ []) 2 rest.now }
+{
+    let mut words = Words::at(2, rest);
+    let value = words.field()?;
+    words.end()?;
+    Ok(value)
+}
+
 fn hall(rest: &[u8]) -> Result<Reading, Misread>
     ensures { result ≡ hall_line rest.now }
 {
-    let mut words = Words::at(2, rest);
-    let number = words.field()?;
-    words.end()?;
-    Ok(Reading::Hall(number))
+    Ok(Reading::Hall(only(rest)?))
 }
 
 fn game(rest: &[u8]) -> Result<Reading, Misread>
@@ -115,10 +122,7 @@ fn game(rest: &[u8]) -> Result<Reading, Misread>
 fn chief(rest: &[u8]) -> Result<Reading, Misread>
     ensures { result ≡ chief_line rest.now }
 {
-    let mut words = Words::at(2, rest);
-    let token = words.field()?;
-    words.end()?;
-    Ok(Reading::Chief(token))
+    Ok(Reading::Chief(only(rest)?))
 }
 
 fn bearer(rest: &[u8]) -> Result<Reading, Misread>
