@@ -19,6 +19,7 @@ fn length_until<F: Fn(u8) -> bool>(text: &[u8], ends: F) -> usize
 pub fn first_line<'a>(text: &'a [u8]) -> (&'a [u8], &'a [u8])
     ensures line { result.0.now ≡ line_of text.now }
     ensures rest { result.1.now ≡ rest_of text.now }
+    ensures shorter { 0 < length text.now → length result.1.now < length text.now }
 {
     let (line, rest) = text.split_at(length_until(text, |byte| byte == b'\n'));
     match rest {
