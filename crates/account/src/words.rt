@@ -7,6 +7,7 @@ use rounds::Fault;
 use scoring::Answered;
 use std::fmt;
 
+// The words of refusals and faults of all books stand here, and in no Display: they are the account's, and the books print nothing.
 fn words_of_roll(refusal: Refusal) -> &'static str {
     match refusal {
         Refusal::NotStanding => "the grant does not stand",
@@ -129,7 +130,7 @@ impl fmt::Display for Party {
     }
 }
 
-// The kinds of operations of the three books.
+// The kinds of operations of the three books, or another number, which the account prints as it is.
 #[derive(Clone, Copy, Debug, PartialEq, Eq, Hash)]
 enum Kind {
     Roll(roll::Kind),

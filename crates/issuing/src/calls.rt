@@ -77,7 +77,7 @@ pub fn morning() -> [Call; 18] {
 // In hall h, players 1 and 2 are seated at board h.
 fn seat(h: u16) -> Operation {
     Operation {
-        kind: 16,
+        kind: chess::Kind::Seat as u8,
         a: h,
         b: 1,
         c: 2,
