@@ -1,7 +1,8 @@
 -- What each call answers, and what it leaves.
 use Rattle.std.specs.Prelude.{◌≡◌, ℕ, ◌+◌, ◌-◌, ◌^◌, true, cond, not, ◌||◌, List, Ok, Err, Option, Result, ◌==◌, count_ones, nat_le, nat_lt, slice_index_or, slice_set}
 use Rattle.std.specs.Result.{OnErr}
-use Rattle.congress.specs.Sending.{requests, no_operation}
+use Rattle.congress.specs.Sending.{requests, no_operation, no_message}
+use Rattle.congress.specs.Tables.{with_clock, opened_for}
 use Rattle.congress.specs.State.{State, World, world, fresh, hall_at, with_hall, console_at, with_console, with_count, short, lacks_room, messages, posting}
 use Rattle.congress.specs.declared.refusals.Refusal.TheVariants.{NotThere, Busy, BadHalls, UsedUp, TooLate, NoRoom, ShortPost}
 use Rattle.congress.specs.declared.refusals.Refusal.{Refusal}
@@ -24,19 +25,13 @@ abbrev pub open_step : State → ℕ → Result (Unit {0}) Refusal × State
 open_step s number = cond (number == 0 || nat_lt 8 number) (Err BadHalls, s) (Ok tt, fresh number)
 
 -- Clock: a hall that is open, and a time up to 2^48
-abbrev pub at_time : Hall → ℕ → Hall
-at_time hall time = record { clock = time; last = hall.last; mode = hall.mode; taken = hall.taken }
-
 abbrev pub clock_step : State → ℕ → ℕ → Result (Unit {0}) Refusal × State
 clock_step s h time =
     cond (nat_le s.opened h) (Err NotThere, s)
     (cond (nat_lt (2 ^ 48) time) (Err TooLate, s)
-    (Ok tt, with_hall s h (at_time (hall_at s h) time)))
+    (Ok tt, with_hall s h (with_clock (hall_at s h) time)))
 
 -- Issue: the console's next transaction
-abbrev pub opened_for : Console → ℕ → Console
-opened_for c halls = record { busy = true; sequence = c.sequence + 1; halls = halls; replied = 0; high = c.high }
-
 abbrev pub draft_of : Console → ℕ → ℕ → ℕ → List Operation → Request
 draft_of c k class halls operations =
     record { transaction = number_of (c.sequence + 1) k; to = 0; class = class; halls = halls; high = c.high; operation = slice_index_or operations 0 no_operation }
@@ -57,9 +52,6 @@ issue_step w k class halls operations =
     (Ok (number_of ((console_at w.state k).sequence + 1) k), issued w k class halls operations))))))
 
 -- Drop: the last message takes the place of the one dropped, all other places stay
-abbrev pub no_message : Message
-no_message = Message.Request (record { transaction = 0; to = 0; class = 0; halls = 0; high = 0; operation = no_operation })
-
 abbrev pub dropped : World → ℕ → World
 dropped w place =
     world (with_count w.state (w.state.count - 1))

@@ -1,6 +1,7 @@
 -- What a congress means: its tables as lists, of the queue only the entries that wait.
 use Rattle.std.specs.Prelude.{ℕ, ◌+◌, min, Bool, false, List, [], length, take, replicate, nat_lt, slice_index_or, slice_set}
 use Rattle.std.proofs.lemmas.List.Edits.{sets}
+use Rattle.book.specs.Model.{Page}
 use Rattle.congress.specs.declared.tables.Console.{Console}
 use Rattle.congress.specs.declared.tables.Entry.{Entry}
 use Rattle.congress.specs.declared.tables.Hall.{Hall}
@@ -20,6 +21,9 @@ with_halls s halls = record { opened = s.opened; halls = halls; consoles = s.con
 
 abbrev pub with_consoles : State → List Console → State
 with_consoles s consoles = record { opened = s.opened; halls = s.halls; consoles = consoles; entries = s.entries; count = s.count }
+
+abbrev pub with_entries : State → List Entry → State
+with_entries s entries = record { opened = s.opened; halls = s.halls; consoles = s.consoles; entries = entries; count = s.count }
 
 abbrev pub with_count : State → ℕ → State
 with_count s count = record { opened = s.opened; halls = s.halls; consoles = s.consoles; entries = s.entries; count = count }
@@ -79,3 +83,17 @@ messages w = take w.state.count w.post
 -- new messages follow the last; all other places stay
 abbrev pub posting : World → List Message → World
 posting w new = world (with_count w.state (w.state.count + length new)) (sets w.post w.state.count new)
+
+-- a congress with its post and the pages of its book
+pub record Scene : Type 0 where
+  pub world : World
+  pub pages : ℕ → Page
+
+abbrev pub scene : World → (ℕ → Page) → Scene
+scene w pages = record { world = w; pages = pages }
+
+abbrev pub with_state : Scene → State → Scene
+with_state s state = scene (world state s.world.post) s.pages
+
+abbrev pub sending : Scene → List Message → Scene
+sending s new = scene (posting s.world new) s.pages

@@ -1,9 +1,10 @@
 // The calls of a congress.
 ghost use Rattle.std.specs.Prelude.{◌≡◌, ◌+◌, ◌<◌, cond};
-ghost use Rattle.congress.specs.Calls.{Untouched, open_step, clock_step, opened_for, issue_step, drop_step, find_answer};
+ghost use Rattle.congress.specs.Calls.{Untouched, open_step, clock_step, issue_step, drop_step, find_answer};
 ghost use Rattle.congress.specs.Entries.{entry_transaction};
 ghost use Rattle.congress.specs.Meaning.{state, with_post};
 ghost use Rattle.congress.specs.State.{fresh, short};
+ghost use Rattle.congress.specs.Tables.{opened_for};
 ghost use Rattle.records.specs.Finder.{first_in};
 
 use super::refusals::Refusal;

@@ -3,10 +3,14 @@
 
 mod congress;
 mod entries;
+mod fates;
+mod outcomes;
 mod refusals;
 mod sending;
 mod state;
 mod tables;
 
+pub use fates::Fate;
+pub use outcomes::{Outcome, Report};
 pub use refusals::Refusal;
 pub use state::Congress;

@@ -1,0 +1,8 @@
+-- Lists and sets
+pub mod Lists
+pub mod Sets
+pub mod Pages
+pub mod Plain
+pub mod Happens
+pub mod Invariant
+pub mod Sound

@@ -1,0 +1,2 @@
+-- What every call keeps of the tables.
+use Rattle.std.proofs.Common.{◌≡◌}
