@@ -5,4 +5,6 @@ pub mod Pages
 pub mod Plain
 pub mod Happens
 pub mod Invariant
+pub mod Effects
+pub mod Changes
 pub mod Sound

@@ -4,11 +4,11 @@ use Rattle.book.specs.Apart.{Apart, Pass}
 use Rattle.book.specs.Model.{Page, Model, Lawful}
 use Rattle.book.proofs.Apart.{apart_sym, apart_pass}
 use Rattle.congress.specs.Queue.{before}
-use Rattle.order.specs.Plain.{Part, comes_before, placed, in_order, page_after, Answers, PlainOrder}
+use Rattle.order.specs.Plain.{Part, comes_before, placed, in_order, page_after, Answers, PlainOrder, at_hall}
 use Rattle.order.specs.Promises.{◌∈◌}
 use Rattle.records.specs.declared.Answer.{Answer}
 use Rattle.records.specs.declared.Operation.{Operation}
-use Rattle.std.proofs.lemmas.Bool.{cond_both, true≢false}
+use Rattle.std.proofs.lemmas.Bool.{cond_both, eqb-true, true≢false}
 use Rattle.std.proofs.lemmas.Bool.Decides.{nat_tests}
 
 -- x is apart from each part of the list
@@ -131,3 +131,11 @@ module _ (m : Model) (laws : Lawful m) where
         page = placed_page x (in_order xs) first own (sorted xs) h' ∙ ap (λ (p : Page). m.next p x.operation) plain.page;
         answers = placed_answers x (in_order xs) first own (sorted xs) h' (ap (λ (p : Page). m.answer p x.operation) plain.page ∙ r) plain.answers;
       }
+
+pub in_at_hall : (h : ℕ) (xs : List Part) (x : Part) → x ∈ at_hall h xs → (x ∈ xs) × (x.hall ≡ h)
+in_at_hall h [] x i = absurd i
+in_at_hall h (y ∷ ys) x i =
+    cond_both (eqb y.hall h) (y ∷ at_hall h ys) (at_hall h ys) (λ (l : List Part). x ∈ l → (x ∈ (y ∷ ys)) × (x.hall ≡ h))
+    (λ n k. elim k [ inl q ↦ (inl q, ap (λ (w : Part). w.hall) q ∙ eqb-true y.hall h n) | inr k' ↦ let r = in_at_hall h ys x k' in (inr r.0, r.1) ])
+    (λ n k. let r = in_at_hall h ys x k in (inr r.0, r.1))
+    i
