@@ -45,7 +45,7 @@ module _ (d : Request) (os : List Operation) where
   length_in n h = omega (arith, ap length (next_in n h), length_push (requests_below d os n) (to n))
 
   -- those sent, and the halls still to come, are the halls named
-  sent_count : (n : ℕ) → length (requests_below d os n) + ones (d.halls / 2 ^ n) ≡ ones d.halls
+  pub sent_count : (n : ℕ) → length (requests_below d os n) + ones (d.halls / 2 ^ n) ≡ ones d.halls
   sent_count zero = let e : d.halls / 1 ≡ d.halls = omega arith in omega (arith, ap ones e)
   sent_count (suc n) =
       let next = ap (λ k. length (requests_below d os k)) (add-one n) in

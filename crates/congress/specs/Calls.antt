@@ -1,5 +1,5 @@
 -- What each call answers, and what it leaves.
-use Rattle.std.specs.Prelude.{◌≡◌, ℕ, ◌+◌, ◌-◌, ◌^◌, true, cond, not, ◌||◌, List, Ok, Err, Option, Result, ◌==◌, count_ones, nat_le, nat_lt, slice_index_or, slice_set}
+use Rattle.std.specs.Prelude.{◌≡◌, ℕ, ◌+◌, ◌-◌, ◌^◌, cond, not, ◌||◌, List, Ok, Err, Option, Result, ◌==◌, count_ones, nat_le, nat_lt, slice_index_or, slice_set}
 use Rattle.std.specs.Result.{OnErr}
 use Rattle.congress.specs.Sending.{requests, no_operation, no_message}
 use Rattle.congress.specs.Tables.{with_clock, opened_for}
@@ -7,13 +7,11 @@ use Rattle.congress.specs.State.{State, World, world, fresh, hall_at, with_hall,
 use Rattle.congress.specs.declared.refusals.Refusal.TheVariants.{NotThere, Busy, BadHalls, UsedUp, TooLate, NoRoom, ShortPost}
 use Rattle.congress.specs.declared.refusals.Refusal.{Refusal}
 use Rattle.congress.specs.declared.tables.Console.{Console}
-use Rattle.congress.specs.declared.tables.Hall.{Hall}
 use Rattle.records.specs.Finder.{first_in}
 use Rattle.records.specs.Halls.{fit}
 use Rattle.records.specs.Messages.{transaction_of}
 use Rattle.records.specs.Transactions.{number_of}
 use Rattle.records.specs.declared.Operation.{Operation}
-use Rattle.records.specs.declared.messages.Message.{Message}
 use Rattle.records.specs.declared.messages.Request.{Request}
 
 -- a refusal leaves all as it was

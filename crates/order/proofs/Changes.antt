@@ -1,23 +1,21 @@
 -- The small changes that calls are made of: each keeps what is kept.
-use Rattle.std.proofs.Common.{◌≡◌, ℕ, ◌<◌, ◌≤◌, Bool, true, ◌⊎◌, List, ◌∷◌, ◌++◌, length, get_or, set, sym, refl, ap, ◌∙◌, subst, inl, inr, arith, get_or-set_other, get_or-set_same}
+use Rattle.std.proofs.Common.{◌≡◌, ℕ, ◌<◌, ◌≤◌, Bool, true, ◌⊎◌, List, length, get_or, sym, refl, ap, ◌∙◌, subst, inl, inr, arith, get_or-set_other, get_or-set_same}
 use Rattle.book.specs.Apart.{Apart}
-use Rattle.book.specs.Model.{Page, Model, Lawful}
+use Rattle.book.specs.Model.{Model, Lawful}
 use Rattle.congress.specs.Kept.{locks}
-use Rattle.congress.specs.State.{State, World, Scene, scene, world, no_hall, no_console, hall_at, console_at, with_hall, with_console, with_entries, with_state, messages, sending}
+use Rattle.congress.specs.State.{State, World, Scene, scene, no_hall, no_console, hall_at, with_hall, with_console, with_entries, with_state, messages}
 use Rattle.congress.specs.declared.tables.Console.{Console}
 use Rattle.congress.specs.declared.tables.Entry.{Entry}
 use Rattle.congress.specs.declared.tables.Hall.{Hall}
-use Rattle.order.proofs.Effects.{view_put, stays, no_more, says, says_grows, heard_more, heard_rises, told_more, Alike, like_itself, ordered_like, ordered_halls, ordered_enters, ordered_does, right_does}
-use Rattle.order.proofs.Invariant.{Saying, silent, Sayings, Genuine, Counted, Agreed, Denied, ToldTrue, Heard, Numbered, Standing, Holds, Ordered, Singly, DoneRight, last_of, locking_of, taken_of, sequences, Kept}
-use Rattle.order.proofs.Lists.{in_append}
+use Rattle.order.proofs.Effects.{view_put, no_more, says, says_grows, heard_more, heard_rises, told_more, Alike, like_itself, ordered_like, ordered_halls, ordered_enters, ordered_does, right_does}
+use Rattle.order.proofs.Invariant.{Saying, silent, Sayings, Genuine, Counted, Agreed, Denied, Heard, Numbered, Standing, Holds, Ordered, Singly, last_of, locking_of, taken_of, sequences, Kept}
 use Rattle.order.proofs.Pages.{put, put_at, put_same}
 use Rattle.order.proofs.Plain.{AfterOrApart}
-use Rattle.order.specs.History.{Issued, Fallen, History, with_done, with_fallen, with_confirmed}
+use Rattle.order.specs.History.{Fallen, History, with_done, with_fallen, with_confirmed}
 use Rattle.order.specs.Plain.{Part}
 use Rattle.order.specs.Promises.{◌∈◌}
 use Rattle.records.specs.Answers.{well_done}
 use Rattle.records.specs.Transactions.{console, sequence}
-use Rattle.records.specs.declared.Operation.{Operation}
 use Rattle.records.specs.declared.classes.Class.TheVariants.{Coordinated}
 use Rattle.records.specs.declared.messages.Message.{Message}
 use Rattle.std.proofs.lemmas.Bool.{cases_eq}

@@ -1,21 +1,19 @@
 -- What the small changes do to what has been said, and to the order at the halls.
-use Rattle.std.proofs.Common.{◌≡◌, ℕ, ◌+◌, ◌<◌, ◌≤◌, Bool, true, false, cond, ◌&&◌, ◌||◌, eqb, ltb, ◌⊎◌, List, [], ◌∷◌, ◌++◌, length, get_or, set, Some, None, Option, sym, refl, ap, ◌∙◌, subst, inl, inr, arith, get_or-set_other, get_or-set_same}
+use Rattle.std.proofs.Common.{◌≡◌, ℕ, ◌<◌, ◌≤◌, Bool, true, false, eqb, ◌⊎◌, List, ◌∷◌, length, get_or, set, Some, sym, refl, ap, ◌∙◌, subst, inl, inr, arith, get_or-set_other, get_or-set_same}
 use mathlib.Core.Path.{fun_ext}
 use Rattle.book.proofs.Apart.{apart_sym, apart_pass}
-use Rattle.book.specs.Apart.{Apart, Pass}
+use Rattle.book.specs.Apart.{Apart}
 use Rattle.book.specs.Model.{Page, Model, Lawful}
 use Rattle.congress.specs.Queue.{before}
 use Rattle.congress.specs.declared.tables.Entry.{Entry}
-use Rattle.order.proofs.Invariant.{Saying, silent, agreed, denied, Sayings, Meant, TrueVote, Genuine, AgreedBy, Topped, Stamped, Counted, Agreed, Denied, ToldTrue, Heard, Numbered, Holds, Ordered, Singly, DoneRight}
+use Rattle.order.proofs.Invariant.{Saying, silent, agreed, denied, Sayings, Meant, Genuine, AgreedBy, Topped, Stamped, ToldTrue, Heard, Holds, Ordered, DoneRight}
 use Rattle.order.proofs.Pages.{put, put_at, put_here, put_there}
 use Rattle.order.proofs.Plain.{AfterOrApart, one_more, in_at_hall}
 use Rattle.order.specs.History.{Issued, Fallen, issue_of}
 use Rattle.order.specs.Plain.{Part, at_hall, PlainOrder}
-use Rattle.order.specs.Promises.{◌∈◌, Once}
+use Rattle.order.specs.Promises.{◌∈◌}
 use Rattle.records.specs.Answers.{well_done}
-use Rattle.records.specs.Halls.{names}
 use Rattle.records.specs.Transactions.{console, sequence}
-use Rattle.records.specs.declared.Answer.{Answer}
 use Rattle.records.specs.declared.Operation.{Operation}
 use Rattle.records.specs.declared.classes.Class.TheVariants.{Coordinated}
 use Rattle.records.specs.declared.messages.Message.{Message}

@@ -4,11 +4,11 @@ use Rattle.std.specs.Prelude.{count_ones}
 use Rattle.book.specs.Model.{Model}
 use Rattle.congress.specs.Calls.{issued, dropped}
 use Rattle.congress.specs.Kept.{locks}
-use Rattle.congress.specs.Queue.{entry_in, is_at, any_at, held_at, ready, sooner}
+use Rattle.congress.specs.Queue.{entry_in, any_at, held_at, ready, sooner}
 use Rattle.congress.specs.Replies.{console_of, awaits, complete, answered}
 use Rattle.congress.specs.Requests.{hall_of, class_in, verdict, stamp_for, sent, taken_as}
 use Rattle.congress.specs.Sending.{no_message, no_answer}
-use Rattle.congress.specs.State.{State, World, Scene, scene, fresh, hall_at, console_at, with_hall, with_console, with_entries, with_state, short, lacks_room}
+use Rattle.congress.specs.State.{World, Scene, scene, fresh, hall_at, console_at, with_hall, with_console, with_entries, with_state, short, lacks_room}
 use Rattle.congress.specs.Tables.{with_clock}
 use Rattle.congress.specs.Telling.{tell, pass_over}
 use Rattle.congress.specs.Votes.{counted, removed}
@@ -19,7 +19,7 @@ use Rattle.congress.specs.declared.outcomes.Report.{Report}
 use Rattle.congress.specs.declared.refusals.Refusal.{Refusal}
 use Rattle.congress.specs.declared.tables.Entry.{Entry}
 use Rattle.order.specs.Promises.{◌∈◌}
-use Rattle.order.specs.Runs.{saying, step}
+use Rattle.order.specs.Runs.{saying}
 use Rattle.order.specs.declared.calls.Call.{Call}
 use Rattle.order.specs.declared.calls.Call.TheVariants.{Open, Issue, Deliver, Work, Clock, Drop}
 use Rattle.order.specs.declared.calls.Said.{Said}

@@ -1,5 +1,5 @@
 -- What every call keeps, of a lawful book.
-use Rattle.std.proofs.Common.{◌≡◌, ℕ, ◌<◌, ◌≤◌, Bool, true, ◌⊎◌, List, length, get_or, Some, None, Option}
+use Rattle.std.proofs.Common.{◌≡◌, ℕ, ◌≤◌, Bool, true, ◌⊎◌, List, get_or, Some}
 use Rattle.book.specs.Apart.{Apart}
 use Rattle.book.specs.Model.{Page, Model}
 use Rattle.congress.specs.Kept.{locks}

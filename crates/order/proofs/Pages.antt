@@ -1,5 +1,5 @@
 -- Functions of the hall, with one value changed; and the pages of a book so.
-use Rattle.std.proofs.Common.{◌≡◌, ℕ, ◌<◌, Bool, true, false, cond, ◌&&◌, eqb, ltb, refl, sym, ap, ◌∙◌, subst}
+use Rattle.std.proofs.Common.{◌≡◌, ℕ, ◌<◌, Bool, true, cond, ◌&&◌, eqb, ltb, refl, sym, ap, ◌∙◌}
 use mathlib.Core.Path.{fun_ext}
 use Rattle.book.specs.Model.{Page, Model, told, turned, no_hall}
 use Rattle.records.specs.declared.Operation.{Operation}

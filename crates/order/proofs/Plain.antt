@@ -1,12 +1,11 @@
 -- An operation that is apart from what comes after it may as well come last.
-use Rattle.std.proofs.Common.{◌≡◌, ℕ, ◌<◌, ◌≤◌, Bool, true, false, cond, ◌&&◌, ◌||◌, eqb, ltb, ◌⊎◌, List, [], ◌∷◌, ◌++◌, sym, refl, ap, ◌∙◌, subst, inl, inr, ⊎_elim, arith}
-use Rattle.book.specs.Apart.{Apart, Pass}
+use Rattle.std.proofs.Common.{◌≡◌, ℕ, true, false, eqb, ◌⊎◌, List, [], ◌∷◌, sym, refl, ap, ◌∙◌, subst, inl, inr, arith}
+use Rattle.book.specs.Apart.{Apart}
 use Rattle.book.specs.Model.{Page, Model, Lawful}
-use Rattle.book.proofs.Apart.{apart_sym, apart_pass}
+use Rattle.book.proofs.Apart.{apart_pass}
 use Rattle.congress.specs.Queue.{before}
 use Rattle.order.specs.Plain.{Part, comes_before, placed, in_order, page_after, Answers, PlainOrder, at_hall}
 use Rattle.order.specs.Promises.{◌∈◌}
-use Rattle.records.specs.declared.Answer.{Answer}
 use Rattle.records.specs.declared.Operation.{Operation}
 use Rattle.std.proofs.lemmas.Bool.{cond_both, eqb-true, true≢false}
 use Rattle.std.proofs.lemmas.Bool.Decides.{nat_tests}

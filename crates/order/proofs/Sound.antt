@@ -1,2 +1,639 @@
--- What every call keeps of the tables.
-use Rattle.std.proofs.Common.{◌≡◌}
+-- What every call keeps of the tables and the queue, whatever the post holds.
+use Rattle.std.proofs.Common.{◌≡◌, ℕ, zero, suc, ◌+◌, ◌-◌, ◌/◌, ◌%◌, ◌^◌, ◌<◌, ◌≤◌, max, Bool, true, false, not, ◌&&◌, ◌||◌, ltb, List, [], ◌∷◌, ◌++◌, length, get_or, set, map, Result, sym, refl, ap, ◌∙◌, subst, inl, inr, add-one, append-nil, arith, length-set, get_or-set_other, get_or-set_same}
+use Rattle.std.specs.Prelude.{◌==◌, bit_and, bit_or, count_ones}
+use Rattle.std.specs.List.{list_all}
+use Rattle.std.specs.Int.Count.{ones, ones_step}
+use lib.Bits.{and_comm, and_zero_r}
+use lib.ListN.{get_or-replicate}
+use Rattle.book.specs.Model.{Model}
+use Rattle.congress.specs.Calls.{draft_of}
+use Rattle.congress.specs.Kept.{voted, locks, coordinated, suits, apart, kept_entries, mode_of}
+use Rattle.congress.specs.Queue.{no_entry, entry_in, any_at, without}
+use Rattle.congress.specs.Requests.{hall_of, class_in, recorded, mode_for, locked_for, entry_for}
+use Rattle.congress.specs.Sending.{no_operation, to_hall, requests_below, requests}
+use Rattle.congress.specs.State.{State, Scene, hall_at, console_at, fresh, no_hall, new_hall, new_halls, new_consoles, with_hall, with_console, with_entries, with_count}
+use Rattle.congress.specs.Tables.{with_last, with_mode}
+use Rattle.congress.specs.Votes.{settled, leaving, counted}
+use Rattle.congress.specs.Work.{raised}
+use Rattle.congress.specs.declared.refusals.Refusal.{Refusal}
+use Rattle.congress.specs.declared.tables.Console.{Console}
+use Rattle.congress.specs.declared.tables.Entry.{Entry}
+use Rattle.congress.specs.declared.tables.Hall.{Hall}
+use Rattle.congress.specs.declared.tables.Mode.{Mode}
+use Rattle.congress.specs.declared.tables.Mode.TheVariants.{Timestamp}
+use Rattle.order.proofs.Between.{Between, between_push, between_set, between_without}
+use Rattle.order.proofs.Happens.{Asked, MayEnter, Voted, MayWork, Happens, refuses, passes, opens, issues, enters, runs, conflicts, aborts, counts, readies, removes, replies, confirms, frees, works, clocks, drops}
+use Rattle.order.proofs.Lists.{has_place, in_push, in_set, in_get, in_at, in_taken_out, taken_out_length, taken_out_from}
+use Rattle.order.proofs.Posting.{count_few}
+use Rattle.order.proofs.Queue.{held_none, any_none, any_some}
+use Rattle.order.proofs.Sets.{bit_or_cases, bit_or_left, bit_pow, names_parts, names_from, names_or_left, names_pow_self}
+use Rattle.order.specs.Promises.{◌∈◌, WellKept}
+use Rattle.order.specs.declared.calls.Call.{Call}
+use Rattle.order.specs.declared.calls.Said.{Said}
+use Rattle.records.specs.Halls.{bit, names, fit}
+use Rattle.records.specs.Transactions.{console, sequence, transaction}
+use Rattle.records.specs.declared.Operation.{Operation}
+use Rattle.records.specs.declared.classes.Class.{Class}
+use Rattle.records.specs.declared.classes.Class.TheVariants.{Single, Independent, Coordinated}
+use Rattle.records.specs.declared.messages.Message.{Message}
+use Rattle.records.specs.declared.messages.Message.TheVariants.{Request as request}
+use Rattle.records.specs.declared.messages.Request.{Request}
+use Rattle.records.specs.declared.messages.Vote.{Vote}
+use Rattle.std.proofs.lemmas.Bool.{and_parts, and_from, or_cases, or_left, or_right, not-true, eqb-true, eqb-false, eq-eqb, ltb-true, true≢false, cond_both, cond-true, cases_eq, cases_Bool, ne_eqb, not_from_false}
+use Rattle.std.proofs.lemmas.List.{get_or-map, get_or-take, length_push}
+use Rattle.std.proofs.lemmas.List.Folds.{list_any-append}
+use Rattle.std.proofs.lemmas.Nat.{shr-shr}
+use Rattle.std.proofs.lemmas.Nat.Bits.{bit_at_or, bit_at-lt, same_from_bits}
+
+-- what every entry keeps
+pub record EntrySound (s : State) (e : Entry) : Type 0 where
+  pub own : names e.votes e.hall ≡ true
+  pub voted : voted e ≡ true
+  -- no coordinated entry waits at a hall in timestamp mode
+  pub locked : e.class ≡ Coordinated → locks (hall_at s e.hall).mode ≡ true
+  -- its hall is open, and has recorded its sequence
+  pub exists : e.hall < s.opened
+  pub recorded : sequence e.transaction ≤ get_or (hall_at s e.hall).taken (console e.transaction) 0
+
+abbrev pub TwoApart : Entry → Entry → Type 0
+TwoApart x y = apart x y ≡ true
+
+pub record Sound (s : State) : Type 0 where
+  pub few : s.opened ≤ 8
+  pub eight : length s.halls ≡ 8
+  pub sixteen : length s.consoles ≡ 16
+  pub taken : (h : ℕ) → h < 8 → length (hall_at s h).taken ≡ 16
+  pub few_messages : s.count ≤ 1024
+  pub few_entries : length s.entries ≤ 64
+  pub apart : Between TwoApart s.entries
+  pub each : (e : Entry) → e ∈ s.entries → EntrySound s e
+  -- a hall without entries is in timestamp mode
+  pub settled : (h : ℕ) → h < 8 → locks (hall_at s h).mode ≡ true → any_at h s.entries ≡ true
+
+-- Two entries that are apart.
+
+apart_here : (x y : Entry) → TwoApart x y → x.hall ≡ y.hall → (not (x.transaction == y.transaction) && bit_and x.keys y.keys == 0) ≡ true
+apart_here x y h e =
+    elim (or_cases (not (x.hall == y.hall)) (not (x.transaction == y.transaction) && bit_and x.keys y.keys == 0) h) [
+      | inl n ↦ absurd (true≢false (sym (eq-eqb x.hall y.hall e) ∙ not-true (x.hall == y.hall) n))
+      | inr b ↦ b
+    ]
+
+pub apart_transactions : (x y : Entry) → TwoApart x y → x.hall ≡ y.hall → x.transaction ≡ y.transaction → ⊥
+apart_transactions x y h e t =
+    let n = (and_parts (not (x.transaction == y.transaction)) (bit_and x.keys y.keys == 0) (apart_here x y h e)).0 in
+    true≢false (sym (eq-eqb x.transaction y.transaction t) ∙ not-true (x.transaction == y.transaction) n)
+
+pub apart_keys : (x y : Entry) → TwoApart x y → x.hall ≡ y.hall → bit_and x.keys y.keys ≡ 0
+apart_keys x y h e =
+    eqb-true (bit_and x.keys y.keys) 0 (and_parts (not (x.transaction == y.transaction)) (bit_and x.keys y.keys == 0) (apart_here x y h e)).1
+
+apart_from : (x y : Entry) → (x.hall ≡ y.hall → (x.transaction ≡ y.transaction → ⊥) × (bit_and x.keys y.keys ≡ 0)) → TwoApart x y
+apart_from x y f =
+    let rest = not (x.transaction == y.transaction) && bit_and x.keys y.keys == 0 in
+    elim (cases_eq x.hall y.hall) [
+      | inl e ↦ let k = f e in
+          or_right (not (x.hall == y.hall)) rest
+          (and_from (not (x.transaction == y.transaction)) (bit_and x.keys y.keys == 0)
+          (not_from_false (x.transaction == y.transaction) (ne_eqb x.transaction y.transaction k.0)) (eq-eqb (bit_and x.keys y.keys) 0 k.1))
+      | inr n ↦ or_left (not (x.hall == y.hall)) rest (not_from_false (x.hall == y.hall) (ne_eqb x.hall y.hall n))
+    ]
+
+flip_apart : (x y : Entry) → TwoApart x y → TwoApart y x
+flip_apart x y h = apart_from y x
+    (λ e. (λ t. apart_transactions x y h (sym e) (sym t), and_comm y.keys x.keys ∙ apart_keys x y h (sym e)))
+
+-- the others of the hall are of other transactions
+pub others_apart : (s : State) → Sound s → (i : ℕ) → i < length s.entries → (e : Entry) → e ∈ without s.entries i
+    → e.hall ≡ (entry_in s.entries i).hall → e.transaction ≡ (entry_in s.entries i).transaction → ⊥
+others_apart s sound i l e m same_hall same_transaction =
+    let g = has_place (without s.entries i) e no_entry m in
+    let size = taken_out_length no_entry s.entries i in
+    let in_range = g.1 in
+    let u = taken_out_from no_entry s.entries i g.0 l (omega arith) in
+    let same : e ≡ entry_in s.entries u.0 = g.2 ∙ u.3 in
+    apart_transactions (entry_in s.entries u.0) (entry_in s.entries i) (sound.apart u.0 i u.1 l u.2)
+    (ap (λ (w : Entry). w.hall) (sym same) ∙ same_hall) (ap (λ (w : Entry). w.transaction) (sym same) ∙ same_transaction)
+
+-- Open
+
+taken_new : (h : ℕ) → h < 8 → length (hall_at (fresh 0) h).taken ≡ 16
+unfolding new_halls new_hall
+taken_new h l = ap (λ (x : Hall). length x.taken) (get_or-replicate 8 h new_hall no_hall l)
+
+pub opened_sound : (n : ℕ) → n ≤ 8 → Sound (fresh n)
+unfolding new_halls new_hall new_consoles
+opened_sound n l = record {
+  few = l;
+  eight = refl;
+  sixteen = refl;
+  taken = taken_new;
+  few_messages = omega arith;
+  few_entries = omega arith;
+  apart = λ i j below. absurd (omega arith);
+  each = λ e i. absurd i;
+  settled = λ h below locking. absurd (true≢false (sym locking ∙ ap (λ (x : Hall). locks x.mode) (get_or-replicate 8 h new_hall no_hall below)));
+}
+
+-- Sets of halls.
+
+-- what lies in a set adds nothing to it
+or_within : (a m : ℕ) → ((k : ℕ) → bit a k ≡ true → bit m k ≡ true) → bit_or a m ≡ m
+or_within a m within = same_from_bits (bit_or a m) m (λ i.
+    let both = bit_at_or a m i in
+    let one = bit_at-lt a i in
+    let other = bit_at-lt m i in
+    elim (cases_Bool (bit a i)) [
+      | inl y ↦ let p = eqb-true (a / 2 ^ i % 2) 1 y in let q = eqb-true (m / 2 ^ i % 2) 1 (within i y) in omega arith
+      | inr n ↦ let p = eqb-false (a / 2 ^ i % 2) 1 n in omega arith
+    ])
+
+pub within_or : (a m k : ℕ) → bit_or a m ≡ m → bit a k ≡ true → bit m k ≡ true
+within_or a m k e h = subst (λ (w : ℕ). bit w k ≡ true) e (bit_or_left a m k h)
+
+or_pow : (m h : ℕ) → bit m h ≡ true → bit_or (2 ^ h) m ≡ m
+or_pow m h b = or_within (2 ^ h) m (λ k p. subst (λ (i : ℕ). bit m i ≡ true) (sym (bit_pow h k p)) b)
+
+or_pow_more : (votes m h : ℕ) → bit_or votes m ≡ m → bit m h ≡ true → bit_or (bit_or votes (2 ^ h)) m ≡ m
+or_pow_more votes m h e b = or_within (bit_or votes (2 ^ h)) m (λ k p. elim (bit_or_cases votes (2 ^ h) k p) [
+  | inl q ↦ within_or votes m k e q
+  | inr q ↦ subst (λ (i : ℕ). bit m i ≡ true) (sym (bit_pow h k q)) b
+])
+
+voted_from : (e : Entry) → bit_or e.votes e.halls ≡ e.halls → names e.votes e.hall ≡ true → voted e ≡ true
+voted_from e among own = and_from (bit_or e.votes e.halls == e.halls) (names e.votes e.hall) (eq-eqb (bit_or e.votes e.halls) e.halls among) own
+
+pub votes_within : (e : Entry) → voted e ≡ true → bit_or e.votes e.halls ≡ e.halls
+votes_within e h = eqb-true (bit_or e.votes e.halls) e.halls (and_parts (bit_or e.votes e.halls == e.halls) (names e.votes e.hall) h).0
+
+pub votes_named : (e : Entry) → voted e ≡ true → (k : ℕ) → names e.votes k ≡ true → names e.halls k ≡ true
+votes_named e h k n =
+    let p = names_parts e.votes k n in
+    names_from e.halls k p.0 (within_or e.votes e.halls k (votes_within e h) p.1)
+
+-- the requests to the halls below n, and the halls still to come, are the halls named
+to_come : (draft : Request) (operations : List Operation) (n : ℕ) → length (requests_below draft operations n) + ones (draft.halls / 2 ^ n) ≡ ones draft.halls
+to_come draft operations zero = let e : draft.halls / 1 ≡ draft.halls = omega arith in omega (arith, ap ones e)
+to_come draft operations (suc n) =
+    let before = requests_below draft operations n in
+    let message = request (to_hall draft n (get_or operations n no_operation)) in
+    let half = ap ones (shr-shr draft.halls n 1 ∙ ap (λ k. draft.halls / 2 ^ k) (add-one n)) in
+    let split = ones_step (draft.halls / 2 ^ n) in
+    let rest = to_come draft operations n in
+    cond_both (bit draft.halls n) (message ∷ []) [] (λ (l : List Message). length (before ++ l) + ones (draft.halls / 2 ^ suc n) ≡ ones draft.halls)
+    (λ y. omega (arith, length_push before message, eqb-true (draft.halls / 2 ^ n % 2) 1 y))
+    (λ y. omega (arith, ap length (append-nil before), eqb-false (draft.halls / 2 ^ n % 2) 1 y))
+
+pub requests_length : (draft : Request) (operations : List Operation) → length (requests draft operations) ≤ count_ones draft.halls
+unfolding requests
+requests_length draft operations = let e = to_come draft operations 8 in omega arith
+
+-- Entries of a hall.
+
+any_found : (h : ℕ) (q : List Entry) → any_at h q ≡ true → (j : ℕ) × (j < length q) × ((entry_in q j).hall ≡ h)
+any_found h [] a = absurd (true≢false (sym a))
+any_found h (x ∷ xs) a = elim (or_cases (x.hall == h) (any_at h xs) a) [
+  | inl e ↦ (0, omega arith, eqb-true x.hall h e)
+  | inr m ↦ let r = any_found h xs m in let l = r.1 in (suc r.0, omega arith, r.2)
+]
+
+any_push : (h : ℕ) (q : List Entry) (x : Entry) → any_at h q ≡ true → any_at h (q ++ (x ∷ [])) ≡ true
+any_push h q x a = list_any-append (λ (e : Entry). e.hall == h) q (x ∷ []) ∙ or_left (any_at h q) (any_at h (x ∷ [])) a
+
+any_push_here : (h : ℕ) (q : List Entry) (x : Entry) → x.hall ≡ h → any_at h (q ++ (x ∷ [])) ≡ true
+any_push_here h q x e =
+    list_any-append (λ (e : Entry). e.hall == h) q (x ∷ []) ∙ or_right (any_at h q) (any_at h (x ∷ [])) (or_left (x.hall == h) false (eq-eqb x.hall h e))
+
+any_set : (h : ℕ) (q : List Entry) (i : ℕ) (x : Entry) → x.hall ≡ (entry_in q i).hall → any_at h q ≡ true → any_at h (set q i x) ≡ true
+any_set h q i x same a =
+    let f = any_found h q a in
+    let l = f.1 in
+    let size = length-set q i x in
+    let at : (entry_in (set q i x) f.0).hall ≡ h = elim (cases_eq f.0 i) [
+      | inl e ↦ ap (λ (j : ℕ). (entry_in (set q i x) j).hall) e
+          ∙ (ap (λ (w : Entry). w.hall) (get_or-set_same q i x no_entry (omega arith)) ∙ (same ∙ (ap (λ (j : ℕ). (entry_in q j).hall) (sym e) ∙ f.2)))
+      | inr n ↦ ap (λ (w : Entry). w.hall) (get_or-set_other q i f.0 x no_entry n) ∙ f.2
+    ] in
+    any_some h (set q i x) (entry_in (set q i x) f.0) (in_get (set q i x) f.0 no_entry (omega arith)) at
+
+-- an entry at another place than i is still there once i has gone
+stays : (q : List Entry) (i j : ℕ) → i < length q → j < length q → (j ≡ i → ⊥) → entry_in q j ∈ without q i
+stays q i j l m n =
+    let last = entry_in q (length q - 1) in
+    let size = taken_out_length no_entry q i in
+    elim (cases_eq j (length q - 1)) [
+      | inl e ↦ in_at (without q i) i no_entry (entry_in q j) (omega arith)
+          (get_or-take (length q - 1) (set q i last) i no_entry (omega arith) ∙ (get_or-set_same q i last no_entry l ∙ ap (entry_in q) (sym e)))
+      | inr o ↦ in_at (without q i) j no_entry (entry_in q j) (omega arith)
+          (get_or-take (length q - 1) (set q i last) j no_entry (omega arith) ∙ get_or-set_other q i j last no_entry n)
+    ]
+
+any_without : (h : ℕ) (q : List Entry) (i : ℕ) → i < length q → ((entry_in q i).hall ≡ h → ⊥) → any_at h q ≡ true → any_at h (without q i) ≡ true
+any_without h q i l other a =
+    let f = any_found h q a in
+    any_some h (without q i) (entry_in q f.0) (stays q i f.0 l f.1 (λ e. other (ap (λ (j : ℕ). (entry_in q j).hall) (sym e) ∙ f.2))) f.2
+
+-- What is sound but for the modes of halls without entries.
+record Steady (s : State) : Type 0 where
+  pub few : s.opened ≤ 8
+  pub eight : length s.halls ≡ 8
+  pub sixteen : length s.consoles ≡ 16
+  pub taken : (h : ℕ) → h < 8 → length (hall_at s h).taken ≡ 16
+  pub few_messages : s.count ≤ 1024
+  pub few_entries : length s.entries ≤ 64
+  pub apart : Between TwoApart s.entries
+  pub each : (e : Entry) → e ∈ s.entries → EntrySound s e
+
+-- a hall that locks has an entry
+abbrev Settles : State → Type 0
+Settles s = (h : ℕ) → h < 8 → locks (hall_at s h).mode ≡ true → any_at h s.entries ≡ true
+
+steady : (s : State) → Sound s → Steady s
+steady s k = record {
+  few = k.few;
+  eight = k.eight;
+  sixteen = k.sixteen;
+  taken = k.taken;
+  few_messages = k.few_messages;
+  few_entries = k.few_entries;
+  apart = k.apart;
+  each = k.each;
+}
+
+sound : (s : State) → Steady s → Settles s → Sound s
+sound s k settles = record {
+  few = k.few;
+  eight = k.eight;
+  sixteen = k.sixteen;
+  taken = k.taken;
+  few_messages = k.few_messages;
+  few_entries = k.few_entries;
+  apart = k.apart;
+  each = k.each;
+  settled = settles;
+}
+
+-- an entry goes by the halls that are open, its hall's mode, and the sequences that are recorded there
+entry_views : (s t : State) (e : Entry) → t.opened ≡ s.opened → locks (hall_at t e.hall).mode ≡ locks (hall_at s e.hall).mode
+    → get_or (hall_at s e.hall).taken (console e.transaction) 0 ≤ get_or (hall_at t e.hall).taken (console e.transaction) 0 → EntrySound s e → EntrySound t e
+entry_views s t e opened mode rise k = record {
+  own = k.own;
+  voted = k.voted;
+  locked = λ c. mode ∙ k.locked c;
+  exists = let a = k.exists in omega arith;
+  recorded = let a = k.recorded in omega arith;
+}
+
+entry_same : (s t : State) (e : Entry) → t.opened ≡ s.opened → t.halls ≡ s.halls → EntrySound s e → EntrySound t e
+entry_same s t e opened halls k = entry_views s t e opened
+    (ap (λ (hs : List Hall). locks (get_or hs e.hall no_hall).mode) halls)
+    (let a = ap (λ (hs : List Hall). get_or (get_or hs e.hall no_hall).taken (console e.transaction) 0) halls in omega arith)
+    k
+
+-- what holds of hall k once hall h has become x
+by_hall : (P : Hall → Type 0) (s : State) (h : ℕ) (x : Hall) → h < length s.halls → (k : ℕ) → (k ≡ h → P x) → ((k ≡ h → ⊥) → P (hall_at s k))
+    → P (hall_at (with_hall s h x) k)
+by_hall P s h x l k here else = elim (cases_eq k h) [
+  | inl e ↦ subst P (sym (ap (hall_at (with_hall s h x)) e ∙ get_or-set_same s.halls h x no_hall l)) (here e)
+  | inr n ↦ subst P (sym (get_or-set_other s.halls h k x no_hall n)) (else n)
+]
+
+-- the small changes
+module _ (s : State) (k : Steady s) where
+  within : (h : ℕ) → h < s.opened → h < length s.halls
+  within h l = let e = k.eight in let f = k.few in omega arith
+
+  steady_hall : (h : ℕ) (x : Hall) → h < s.opened → length x.taken ≡ 16 → ((c : ℕ) → get_or (hall_at s h).taken c 0 ≤ get_or x.taken c 0)
+      → ((e : Entry) → e ∈ s.entries → e.hall ≡ h → locks x.mode ≡ locks (hall_at s h).mode) → Steady (with_hall s h x)
+  steady_hall h x l size rise mode = record {
+    few = k.few;
+    eight = length-set s.halls h x ∙ k.eight;
+    sixteen = k.sixteen;
+    taken = λ i low. by_hall (λ w. length w.taken ≡ 16) s h x (within h l) i (λ _. size) (λ _. k.taken i low);
+    few_messages = k.few_messages;
+    few_entries = k.few_entries;
+    apart = k.apart;
+    each = λ e m. entry_views s (with_hall s h x) e refl
+        (by_hall (λ w. locks w.mode ≡ locks (hall_at s e.hall).mode) s h x (within h l) e.hall
+        (λ q. mode e m q ∙ ap (λ (i : ℕ). locks (hall_at s i).mode) (sym q)) (λ _. refl))
+        (by_hall (λ w. get_or (hall_at s e.hall).taken (console e.transaction) 0 ≤ get_or w.taken (console e.transaction) 0) s h x (within h l) e.hall
+        (λ q. subst (λ (i : ℕ). get_or (hall_at s i).taken (console e.transaction) 0 ≤ get_or x.taken (console e.transaction) 0) (sym q) (rise (console e.transaction)))
+        (λ _. omega arith))
+        (k.each e m);
+  }
+
+  steady_console : (c : ℕ) (x : Console) → Steady (with_console s c x)
+  steady_console c x = record {
+    few = k.few;
+    eight = k.eight;
+    sixteen = length-set s.consoles c x ∙ k.sixteen;
+    taken = k.taken;
+    few_messages = k.few_messages;
+    few_entries = k.few_entries;
+    apart = k.apart;
+    each = λ e m. entry_same s (with_console s c x) e refl refl (k.each e m);
+  }
+
+  steady_count : (n : ℕ) → n ≤ 1024 → Steady (with_count s n)
+  steady_count n l = record {
+    few = k.few;
+    eight = k.eight;
+    sixteen = k.sixteen;
+    taken = k.taken;
+    few_messages = l;
+    few_entries = k.few_entries;
+    apart = k.apart;
+    each = λ e m. entry_same s (with_count s n) e refl refl (k.each e m);
+  }
+
+  -- other entries wait
+  steady_entries : (q : List Entry) → length q ≤ 64 → Between TwoApart q → ((e : Entry) → e ∈ q → EntrySound s e) → Steady (with_entries s q)
+  steady_entries q few between each = record {
+    few = k.few;
+    eight = k.eight;
+    sixteen = k.sixteen;
+    taken = k.taken;
+    few_messages = k.few_messages;
+    few_entries = few;
+    apart = between;
+    each = λ e m. entry_same s (with_entries s q) e refl refl (each e m);
+  }
+
+  steady_left : (i : ℕ) → i < length s.entries → Steady (with_entries s (without s.entries i))
+  steady_left i l = steady_entries (without s.entries i)
+      (let a = k.few_entries in let e = taken_out_length no_entry s.entries i in omega arith)
+      (between_without TwoApart flip_apart s.entries i l k.apart)
+      (λ e m. k.each e (in_taken_out no_entry s.entries i e l m))
+
+  steady_push : (x : Entry) → length s.entries < 64 → ((e : Entry) → e ∈ s.entries → TwoApart e x) → EntrySound s x
+      → Steady (with_entries s (s.entries ++ (x ∷ [])))
+  steady_push x room apart_from_all ok = steady_entries (s.entries ++ (x ∷ []))
+      (let z = length_push s.entries x in omega arith)
+      (between_push TwoApart flip_apart s.entries x k.apart apart_from_all)
+      (λ e m. elim (in_push e s.entries x m) [ inl i ↦ k.each e i | inr p ↦ subst (EntrySound s) (sym p) ok ])
+
+  steady_set : (i : ℕ) (x : Entry) → ((f : Entry) → TwoApart (entry_in s.entries i) f → TwoApart x f) → EntrySound s x
+      → Steady (with_entries s (set s.entries i x))
+  steady_set i x like ok = steady_entries (set s.entries i x)
+      (let a = k.few_entries in let z = length-set s.entries i x in omega arith)
+      (between_set TwoApart flip_apart s.entries i x like k.apart)
+      (λ e m. elim (in_set s.entries i x e m) [ inl p ↦ subst (EntrySound s) (sym p) ok | inr j ↦ k.each e j ])
+
+-- What calls leave.
+module _ (s : State) (k : Sound s) where
+  sound_console : (c : ℕ) (x : Console) → Sound (with_console s c x)
+  sound_console c x = sound (with_console s c x) (steady_console s (steady s k) c x) k.settled
+
+  sound_count : (n : ℕ) → n ≤ 1024 → Sound (with_count s n)
+  sound_count n l = sound (with_count s n) (steady_count s (steady s k) n l) k.settled
+
+  -- a hall keeps its mode
+  sound_hall : (h : ℕ) (x : Hall) → h < s.opened → length x.taken ≡ 16 → ((c : ℕ) → get_or (hall_at s h).taken c 0 ≤ get_or x.taken c 0)
+      → x.mode ≡ (hall_at s h).mode → Sound (with_hall s h x)
+  sound_hall h x l size rise mode =
+      let same : locks x.mode ≡ locks (hall_at s h).mode = ap locks mode in
+      sound (with_hall s h x) (steady_hall s (steady s k) h x l size rise (λ _ _ _. same))
+      (λ i low. by_hall (λ w. locks w.mode ≡ true → any_at i s.entries ≡ true) s h x (within s (steady s k) h l) i
+      (λ e locking. k.settled i low (ap (λ (j : ℕ). locks (hall_at s j).mode) e ∙ (sym same ∙ locking)))
+      (λ _ locking. k.settled i low locking))
+
+  -- an entry leaves its hall
+  sound_left : (h i : ℕ) → h < s.opened → i < length s.entries → (entry_in s.entries i).hall ≡ h → Sound (leaving s h i)
+  sound_left h i l in_range here =
+      let below : h < 8 = let f = k.few in omega arith in
+      let st = steady s k in
+      sound (leaving s h i)
+      (steady_hall left (steady_left s st i in_range) h x l
+      (either_mode (λ w. length w.taken ≡ 16) (k.taken h below) (k.taken h below))
+      (λ c. either_mode (λ w. get_or hall.taken c 0 ≤ get_or w.taken c 0) (omega arith) (omega arith))
+      (λ e m p. ap (λ (w : Hall). locks w.mode) (cond-true (any_at h q) hall (with_mode hall Timestamp) (any_some h q e m p))))
+      (λ j low. by_hall (λ w. locks w.mode ≡ true → any_at j q ≡ true) left h x (within s st h l) j
+      (λ e locking. ap (λ (a : ℕ). any_at a q) e ∙ has_entry locking)
+      (λ n locking. any_without j s.entries i in_range (λ e. n (sym e ∙ here)) (k.settled j low locking)))
+    where
+      q : List Entry
+      q = without s.entries i
+
+      left : State
+      left = with_entries s q
+
+      hall : Hall
+      hall = hall_at s h
+
+      x : Hall
+      x = settled q h hall
+
+      either_mode : (P : Hall → Type 0) → P hall → P (with_mode hall Timestamp) → P x
+      either_mode P a b = cond_both (any_at h q) hall (with_mode hall Timestamp) P (λ _. a) (λ _. b)
+
+      has_entry : locks x.mode ≡ true → any_at h q ≡ true
+      has_entry = cond_both (any_at h q) hall (with_mode hall Timestamp) (λ w. locks w.mode ≡ true → any_at h q ≡ true)
+          (λ y _. y) (λ _ f. absurd (true≢false (sym f)))
+
+-- A request that its hall takes.
+module _ (m : Model) (s : Scene) (k : Sound s.world.state) (place : ℕ) (r : Request) (stamp : ℕ) (a : Asked s place r stamp) where
+  abbrev st : State
+  st = s.world.state
+
+  abbrev hall : Hall
+  hall = hall_of s r
+
+  abbrev taken_now : List ℕ
+  taken_now = set hall.taken (console r.transaction) (sequence r.transaction)
+
+  laws : (r.to < st.opened) × (names r.halls r.to ≡ true)
+  laws =
+      let one = and_parts (transaction r.transaction) _ a.delivered.law in
+      let two = and_parts (ltb r.to st.opened) _ one.1 in
+      let three = and_parts (fit st.opened r.class r.halls) _ two.1 in
+      let four = and_parts (names r.halls r.to) _ three.1 in
+      (ltb-true r.to st.opened two.0, four.0)
+
+  low : r.to < 8
+  low = let l = laws.0 in let f = k.few in omega arith
+
+  size : length hall.taken ≡ 16
+  size = k.taken r.to low
+
+  size_now : length taken_now ≡ 16
+  size_now = length-set hall.taken (console r.transaction) (sequence r.transaction) ∙ size
+
+  taken_here : get_or taken_now (console r.transaction) 0 ≡ sequence r.transaction
+  taken_here = get_or-set_same hall.taken (console r.transaction) (sequence r.transaction) 0 (let z = size in omega arith)
+
+  rise : (c : ℕ) → get_or hall.taken c 0 ≤ get_or taken_now c 0
+  rise c =
+      let n = a.rises in
+      elim (cases_eq c (console r.transaction)) [
+        | inl e ↦ let now : get_or taken_now c 0 ≡ sequence r.transaction = ap (λ (i : ℕ). get_or taken_now i 0) e ∙ taken_here in
+            let old : get_or hall.taken c 0 ≡ get_or hall.taken (console r.transaction) 0 = ap (λ (i : ℕ). get_or hall.taken i 0) e in
+            omega arith
+        | inr d ↦ let other = get_or-set_other hall.taken (console r.transaction) c (sequence r.transaction) 0 d in omega arith
+      ]
+
+  -- the hall records the sequence, and no more but the last stamp
+  sound_recorded : (last : ℕ) → Sound (with_hall st r.to (with_last (recorded hall r.transaction) last))
+  sound_recorded last = sound_hall st k r.to (with_last (recorded hall r.transaction) last) laws.0 size_now rise refl
+
+  -- it takes no request whose entry waits
+  not_waiting : (e : Entry) → e ∈ st.entries → e.hall ≡ r.to → e.transaction ≡ r.transaction → ⊥
+  not_waiting e i p t =
+      let n = a.rises in
+      let c = (k.each e i).recorded in
+      let d : get_or (hall_at st e.hall).taken (console e.transaction) 0 ≡ get_or hall.taken (console r.transaction) 0 =
+      ap (λ (w : ℕ). get_or (hall_at st w).taken (console e.transaction) 0) p ∙ ap (λ (w : ℕ). get_or hall.taken (console w) 0) t in
+      let f : sequence e.transaction ≡ sequence r.transaction = ap sequence t in
+      omega arith
+
+  module _ (may : MayEnter m s r) where
+    abbrev mode_now : Mode
+    mode_now = mode_for hall.mode (class_in r)
+
+    abbrev hall_now : Hall
+    hall_now = locked_for (recorded hall r.transaction) (class_in r)
+
+    abbrev new : Entry
+    new = entry_for m hall r stamp
+
+    -- a hall that has entries keeps its mode
+    same_by : (c : Class) → class_in r ≡ c → (e : Entry) → e ∈ st.entries → e.hall ≡ r.to → locks (mode_for hall.mode c) ≡ locks hall.mode
+    same_by Single q e i p = refl
+    same_by Independent q e i p = refl
+    same_by Coordinated q e i p = elim (cases_Bool (locks hall.mode)) [
+      | inl y ↦ sym y
+      | inr n ↦ absurd (any_none r.to st.entries (may.empty n q) e i p)
+    ]
+
+    same : (e : Entry) → e ∈ st.entries → e.hall ≡ r.to → locks mode_now ≡ locks hall.mode
+    same = same_by (class_in r) refl
+
+    -- keys are held at a hall that locks alone, and none of these was held there
+    new_keys : (e : Entry) → e ∈ st.entries → e.hall ≡ r.to → bit_and e.keys new.keys ≡ 0
+    new_keys e i p = cond_both (locks mode_now) (m.keys r.operation) 0 (λ (w : ℕ). bit_and e.keys w ≡ 0)
+        (λ y. held_none r.to (m.keys r.operation) st.entries (may.free (sym (same e i p) ∙ y)) e i p)
+        (λ _. and_zero_r e.keys)
+
+    here : hall_at (with_hall st r.to hall_now) r.to ≡ hall_now
+    here = get_or-set_same st.halls r.to hall_now no_hall (within st (steady st k) r.to laws.0)
+
+    new_sound : EntrySound (with_hall st r.to hall_now) new
+    new_sound =
+        let own = names_pow_self r.to low in
+        record {
+          own = own;
+          voted = voted_from new (or_pow r.halls r.to (names_parts r.halls r.to laws.1).1) own;
+          locked = λ c. ap (λ (w : Hall). locks w.mode) here ∙ ap (λ (d : Class). locks (mode_for hall.mode d)) c;
+          exists = laws.0;
+          recorded = let e = ap (λ (w : Hall). get_or w.taken (console r.transaction) 0) here ∙ taken_here in omega arith;
+        }
+
+    sound_enters : Sound (with_entries (with_hall st r.to hall_now) (st.entries ++ (new ∷ [])))
+    sound_enters =
+        let l = within st (steady st k) r.to laws.0 in
+        sound (with_entries (with_hall st r.to hall_now) (st.entries ++ (new ∷ [])))
+        (steady_push (with_hall st r.to hall_now) (steady_hall st (steady st k) r.to hall_now laws.0 size_now rise same) new may.room
+        (λ e i. apart_from e new (λ p. (not_waiting e i p, new_keys e i p))) new_sound)
+        (λ i below. by_hall (λ w. locks w.mode ≡ true → any_at i (st.entries ++ (new ∷ [])) ≡ true) st r.to hall_now l i
+        (λ e _. any_push_here i st.entries new (sym e)) (λ _ locking. any_push i st.entries new (k.settled i below locking)))
+
+-- A vote that is counted.
+sound_counts : (s : Scene) → Sound s.world.state → (place : ℕ) (v : Vote) (i : ℕ) (e : Entry) → Voted s place v i e
+    → Sound (with_entries s.world.state (set s.world.state.entries i (counted e v)))
+sound_counts s k place v i e met =
+    let st = s.world.state in
+    let was = k.each e (in_at st.entries i no_entry e met.there met.is) in
+    let own = names_or_left e.votes (2 ^ v.from) e.hall was.own in
+    sound (with_entries st (set st.entries i (counted e v)))
+    (steady_set st (steady st k) i (counted e v) (λ f x. subst (λ w. TwoApart w f) met.is x) (record {
+      own = own;
+      voted = voted_from (counted e v) (or_pow_more e.votes e.halls v.from (votes_within e was.voted) (names_parts e.halls v.from met.named).1) own;
+      locked = was.locked;
+      exists = was.exists;
+      recorded = was.recorded;
+    }))
+    (λ h low locking. any_set h st.entries i (counted e v) (ap (λ (w : Entry). w.hall) (sym met.is)) (k.settled h low locking))
+
+-- An entry leaves: by a vote, and once it is done.
+
+sound_removes : (s : Scene) → Sound s.world.state → (place : ℕ) (v : Vote) (i : ℕ) (e : Entry) → Voted s place v i e → Sound (leaving s.world.state v.to i)
+sound_removes s k place v i e met =
+    let st = s.world.state in
+    let exists = (k.each e (in_at st.entries i no_entry e met.there met.is)).exists in
+    sound_left st k v.to i (let same = met.same_hall in omega arith) met.there (ap (λ (w : Entry). w.hall) met.is ∙ met.same_hall)
+
+sound_works : (s : Scene) → Sound s.world.state → (h i : ℕ) (e : Entry) → MayWork s h i e → Sound (leaving (raised s.world.state h e.stamp) h i)
+sound_works s k h i e may =
+    let st = s.world.state in
+    let hall = hall_at st h in
+    sound_left (raised st h e.stamp)
+    (sound_hall st k h (with_last hall (max hall.last e.stamp)) may.exists (k.taken h (let f = k.few in let l = may.exists in omega arith)) (λ c. omega arith) refl)
+    h i may.exists may.there (ap (λ (w : Entry). w.hall) may.is ∙ may.here)
+
+-- every call keeps it
+pub sound_step : {m : Model} {s : Scene} {call : Call} {st : Result Said Refusal × Scene} → Happens m s call st → Sound s.world.state → Sound st.1.world.state
+sound_step (refuses call why) k = k
+sound_step (passes place) k = k
+sound_step (opens halls some few) k = opened_sound halls few
+sound_step {m} {s} (issues c class halls operations may) k =
+    sound_count _ (sound_console s.world.state k c _) _
+    (let few = count_few s.world (count_ones halls) may.room in
+    let sent = requests_length (draft_of (console_at s.world.state c) c class halls operations) operations in
+    omega arith)
+sound_step {m} {s} (enters place r stamp a may room) k = sound_count _ (sound_enters m s k place r stamp a may) _ (count_few s.world _ room)
+sound_step {m} {s} (runs place r stamp a may room) k = sound_count _ (sound_recorded m s k place r stamp a _) _ (count_few s.world _ room)
+sound_step {m} {s} (conflicts place r stamp a room) k = sound_count _ (sound_recorded m s k place r stamp a (hall_of s r).last) _ (count_few s.world _ room)
+sound_step {m} {s} (aborts place r stamp a room) k = sound_count _ (sound_recorded m s k place r stamp a (hall_of s r).last) _ (count_few s.world _ room)
+sound_step {m} {s} (counts place v i e met status) k = sound_counts s k place v i e met
+sound_step {m} {s} (readies place v i e met status) k = sound_counts s k place v i e met
+sound_step {m} {s} (removes place v i e met status room) k = sound_count _ (sound_removes s k place v i e met) _ (count_few s.world 1 room)
+sound_step {m} {s} (replies place r a) k = sound_console s.world.state k _ _
+sound_step {m} {s} (confirms place r a status all) k = sound_console s.world.state k _ _
+sound_step {m} {s} (frees place r a) k = sound_console s.world.state k _ _
+sound_step {m} {s} (works h i e may) k = sound_count _ (sound_works s k h i e may) _ (count_few s.world 1 may.room)
+sound_step {m} {s} (clocks h time there) k =
+    sound_hall s.world.state k h _ there (k.taken h (let f = k.few in omega arith)) (λ c. omega arith) refl
+sound_step {m} {s} (drops place long there) k = sound_count s.world.state k _ (let f = k.few_messages in omega arith)
+
+-- What is sound is well kept.
+
+all_apart : (x : Entry) (q : List Entry) → ((y : Entry) → y ∈ q → TwoApart x y) → list_all (apart x) q ≡ true
+all_apart x [] f = refl
+all_apart x (y ∷ ys) f = and_from (apart x y) (list_all (apart x) ys) (f y (inl refl)) (all_apart x ys (λ z m. f z (inr m)))
+
+kept_from : (modes : List Mode) (q : List Entry) → ((e : Entry) → e ∈ q → voted e ≡ true) → ((e : Entry) → e ∈ q → suits modes e ≡ true) → Between TwoApart q
+    → kept_entries modes q ≡ true
+kept_from modes [] votes waits between = refl
+kept_from modes (x ∷ xs) votes waits between =
+    and_from (voted x) _ (votes x (inl refl))
+    (and_from (suits modes x) _ (waits x (inl refl))
+    (and_from (list_all (apart x) xs) (kept_entries modes xs) (all_apart x xs later)
+    (kept_from modes xs (λ e m. votes e (inr m)) (λ e m. waits e (inr m)) (λ i j l n o. between (suc i) (suc j) (omega arith) (omega arith) (λ e. o (omega arith))))))
+  where
+    later : (y : Entry) → y ∈ xs → TwoApart x y
+    later y m =
+        let p = has_place xs y no_entry m in
+        let l = p.1 in
+        subst (TwoApart x) (sym p.2) (between 0 (suc p.0) (omega arith) (omega arith) (omega arith))
+
+suits_class : (class : Class) (locking : Bool) → (class ≡ Coordinated → locking ≡ true) → (not (coordinated class) || locking) ≡ true
+suits_class Single locking f = refl
+suits_class Independent locking f = refl
+suits_class Coordinated locking f = f refl
+
+pub well_kept : (s : State) → Sound s → WellKept s
+well_kept s k = record {
+  few_halls = k.few;
+  few_entries = k.few_entries;
+  few_messages = k.few_messages;
+  kept = kept_from (map mode_of s.halls) s.entries (λ e m. (k.each e m).voted) waits k.apart;
+  settled = k.settled;
+}
+  where
+    waits : (e : Entry) → e ∈ s.entries → suits (map mode_of s.halls) e ≡ true
+    waits e m =
+        let was = k.each e m in
+        let exists = was.exists in
+        let few = k.few in
+        let eight = k.eight in
+        suits_class e.class (locks (get_or (map mode_of s.halls) e.hall Timestamp))
+        (λ c. ap locks (get_or-map mode_of s.halls e.hall no_hall Timestamp (omega arith)) ∙ was.locked c)

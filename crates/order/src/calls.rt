@@ -5,12 +5,28 @@ use records::Operation;
 // Halls, consoles, classes and places are plain numbers, since a caller may give any.
 #[derive(Clone, Copy, Debug, PartialEq, Eq, Hash)]
 pub enum Call {
-    Open { halls: u8 },
-    Issue { console: u8, class: u8, halls: u8, operations: [Operation; 8] },
-    Deliver { place: usize },
-    Work { hall: u8 },
-    Clock { hall: u8, time: u64 },
-    Drop { place: usize },
+    Open {
+        halls: u8,
+    },
+    Issue {
+        console: u8,
+        class: u8,
+        halls: u8,
+        operations: [Operation; 8],
+    },
+    Deliver {
+        place: usize,
+    },
+    Work {
+        hall: u8,
+    },
+    Clock {
+        hall: u8,
+        time: u64,
+    },
+    Drop {
+        place: usize,
+    },
 }
 
 // What a call tells that is not refused.

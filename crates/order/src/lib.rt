@@ -1,7 +1,8 @@
-// One order of the acts of several halls: what the calls of a congress come to, what is promised of it, and the theorems
-// that every list of calls keeps these promises.
+// One order of the acts of several halls: what lists of calls come to, and the promises that all of them keep.
 #![tactic(auto)]
 
 mod calls;
+mod promises;
 
 pub use calls::{Call, Said};
+pub use promises::{all_or_none_holds, congress_is_kept, one_order_holds, removal_holds};

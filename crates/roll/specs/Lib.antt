@@ -2,6 +2,7 @@ pub mod Kinds
 pub mod Refusals
 pub mod Asking
 pub mod Roll
+pub mod Over
 pub mod Promises
 pub mod Laws
 pub mod Keys

@@ -11,7 +11,7 @@ mod tokens;
 pub use asking::ENTRIES;
 pub use halls::Roll;
 pub use kinds::Kind;
-pub use promises::{entries_stay, removal_empties};
+pub use promises::{entries_stay, is_a_roll, removal_empties};
 pub use refusals::Refusal;
 
 // The layer of the roll's own answers.
