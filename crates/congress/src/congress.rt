@@ -73,6 +73,7 @@ impl Congress {
 
     // Opens a console's next transaction: requests go into the post, and its number is answered.
     // Console, class and halls are plain numbers, since a caller may give any.
+    #[tactic(auto, using(crate::proofs::Sent::requests_count))]
     pub fn issue(
         &mut self,
         post: &mut [Message],

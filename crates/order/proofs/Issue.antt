@@ -2,7 +2,7 @@
 use Rattle.std.proofs.Common.{◌≡◌, ℕ, ◌+◌, ◌≤◌, true, eqb, List, ◌∷◌, length, get_or, Some, Option, refl, sym, ap, ◌∙◌, subst, arith}
 use Rattle.std.specs.Int.Count.{ones}
 use Rattle.book.specs.Model.{Model}
-use Rattle.congress.proofs.Sent.{sent_count, requests_is}
+use Rattle.congress.proofs.Sent.{requests_is, requests_few}
 use Rattle.congress.specs.Calls.{draft_of, issued}
 use Rattle.congress.specs.Sending.{no_operation, to_hall, requests_below, requests}
 use Rattle.congress.specs.State.{Scene, scene, no_console, console_at, with_console, with_state}
@@ -93,10 +93,6 @@ module _ {m : Model} {said : Sayings} {s : Scene} {H : History} (sound : Sound s
   abbrev draft : Request
   draft = draft_of c k class halls operations
 
-  -- no more requests than halls are named
-  few_requests : length (requests draft operations) ≤ ones halls
-  few_requests = let a = sent_count draft operations 8 in let b = ap length (requests_is draft operations) in omega arith
-
   genuine_all : (x : Message) → x ∈ requests draft operations → Genuine said (new ∷ H.issues) x
   genuine_all x i =
       let j : x ∈ requests_below draft operations 8 = subst (λ (l : List Message). x ∈ l) (sym (requests_is draft operations)) i in
@@ -105,6 +101,6 @@ module _ {m : Model} {said : Sayings} {s : Scene} {H : History} (sound : Sound s
 
   pub issues_kept : Kept m said (scene (issued s.world k class halls operations) s.pages) (with_issued H new)
   issues_kept = sending_kept opened_console (requests draft operations)
-      (room_less (with_state s (with_console s.world.state k (opened_for c halls))).world (ones halls) (length (requests draft operations)) few_requests
+      (room_less (with_state s (with_console s.world.state k (opened_for c halls))).world (ones halls) (length (requests draft operations)) (requests_few draft operations)
       (record { long = may.room.long; room = may.room.room }))
       genuine_all
