@@ -1,5 +1,5 @@
 -- Work: which entry may run, what is told and what is left.
-use Rattle.std.specs.Prelude.{ℕ, max, Bool, cond, ◌&&◌, List, [], ◌∷◌, Some, None, Option, Result, ◌==◌, nat_le}
+use Rattle.std.specs.Prelude.{ℕ, max, Bool, true, false, cond, not, ◌&&◌, ◌||◌, List, [], ◌∷◌, Some, None, Option, Result, ◌==◌, nat_le}
 use Rattle.book.specs.Model.{Model, told, turned}
 use Rattle.congress.specs.Kept.{locks}
 use Rattle.congress.specs.Queue.{entry_in, ready, least}
@@ -17,12 +17,9 @@ use Rattle.records.specs.Classes.{status_number}
 use Rattle.records.specs.declared.Answer.{Answer}
 use Rattle.records.specs.declared.classes.Status.TheVariants.{Commit}
 
--- the entries that Work goes by at a hall
-abbrev pub in_turn : ℕ → Entry → Bool
-in_turn h e = e.hall == h
-
-abbrev pub ready_in_turn : ℕ → Entry → Bool
-ready_in_turn h e = in_turn h e && ready e
+-- the entries that Work goes by at a hall: all, or those that are ready
+abbrev pub in_turn : ℕ → Bool → Entry → Bool
+in_turn h only_ready e = e.hall == h && (not only_ready || ready e)
 
 abbrev pub if_ready : List Entry → Option ℕ → Option ℕ
 if_ready entries None = None
@@ -32,8 +29,8 @@ if_ready entries (Some place) = cond (ready (entry_in entries place)) (Some plac
 abbrev pub may_run : State → ℕ → Option ℕ
 may_run s h =
     cond (locks (hall_at s h).mode)
-    (least (ready_in_turn h) s.entries)
-    (if_ready s.entries (least (in_turn h) s.entries))
+    (least (in_turn h true) s.entries)
+    (if_ready s.entries (least (in_turn h false) s.entries))
 
 -- where no entry may run
 abbrev pub work_else : Model → Scene → ℕ → Result Report Refusal × Scene

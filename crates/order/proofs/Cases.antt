@@ -11,7 +11,7 @@ use Rattle.congress.specs.Sending.{no_message, no_answer}
 use Rattle.congress.specs.State.{State, World, Scene, scene, fresh, console_at, with_console, with_entries, with_state, short, lacks_room}
 use Rattle.congress.specs.Telling.{refuse, tell, pass_over}
 use Rattle.congress.specs.Votes.{counts, counted, count_vote, remove_entry, vote_at, vote_step}
-use Rattle.congress.specs.Work.{in_turn, ready_in_turn, if_ready, may_run, work_on, work_step}
+use Rattle.congress.specs.Work.{in_turn, if_ready, may_run, work_on, work_step}
 use Rattle.congress.specs.declared.fates.Fate.{Fate}
 use Rattle.congress.specs.declared.fates.Fate.TheVariants.{Enters, Runs, Conflicts, Aborts}
 use Rattle.congress.specs.declared.outcomes.Outcome.{Outcome}
@@ -207,9 +207,9 @@ module _ (m : Model) (s : Scene) (h : ℕ) where
   may_work i exists e room =
       let q = entries_of s in
       let x = entry_in q i in
-      cond_both (is_locking s h) (least (ready_in_turn h) q) (if_ready q (least (in_turn h) q)) (λ (o : Option ℕ). o ≡ Some i → MayWork s h i x)
-      (λ n k. let found = least_in (ready_in_turn h) q i k in
-      let b = and_parts (in_turn h x) (ready x) found.1 in
+      cond_both (is_locking s h) (least (in_turn h true) q) (if_ready q (least (in_turn h false) q)) (λ (o : Option ℕ). o ≡ Some i → MayWork s h i x)
+      (λ n k. let found = least_in (in_turn h true) q i k in
+      let b = and_parts (eqb x.hall h) (ready x) found.1 in
       record {
         exists = exists;
         there = found.0;
@@ -219,15 +219,15 @@ module _ (m : Model) (s : Scene) (h : ℕ) where
         first = λ f j a. inl n;
         room = room;
       })
-      (λ n k. let r = found_ready q (least (in_turn h) q) i k in
-      let found = least_in (in_turn h) q i r.0 in
+      (λ n k. let r = found_ready q (least (in_turn h false) q) i k in
+      let found = least_in (in_turn h false) q i r.0 in
       record {
         exists = exists;
         there = found.0;
         is = refl;
-        here = eqb-true x.hall h found.1;
+        here = eqb-true x.hall h (and_parts (eqb x.hall h) true found.1).0;
         is_ready = r.1;
-        first = λ f j a. inr (least_least (in_turn h) q i f r.0 j (eq-eqb f.hall h a));
+        first = λ f j a. inr (least_least (in_turn h false) q i f r.0 j (and_from (eqb f.hall h) true (eq-eqb f.hall h a) refl));
         room = room;
       })
       e
