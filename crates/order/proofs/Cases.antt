@@ -42,7 +42,7 @@ use Rattle.records.specs.declared.messages.Message.TheVariants.{Request as reque
 use Rattle.records.specs.declared.messages.Reply.{Reply}
 use Rattle.records.specs.declared.messages.Request.{Request}
 use Rattle.records.specs.declared.messages.Vote.{Vote}
-use Rattle.std.proofs.lemmas.Bool.{cond_both, and_parts, eqb-true, eqb-false, eq-eqb, leb-false, ltb-false, or_parts, not-false, not-true, true≢false}
+use Rattle.std.proofs.lemmas.Bool.{cond_both, and_from, and_parts, eqb-true, eqb-false, eq-eqb, leb-false, ltb-false, or_parts, not-false, not-true, true≢false}
 use Rattle.std.proofs.lemmas.List.Quantifiers.{position-Some}
 
 -- a request
