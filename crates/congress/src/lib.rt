@@ -6,6 +6,8 @@ mod entries;
 mod fates;
 mod outcomes;
 mod refusals;
+mod replies;
+mod requests;
 mod sending;
 mod state;
 mod tables;
