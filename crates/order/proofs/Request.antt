@@ -23,7 +23,7 @@ use Rattle.order.proofs.Lists.{in_push, in_append, in_one}
 use Rattle.order.proofs.Pages.{put, told_is, turned_is}
 use Rattle.order.proofs.Posting.{in_to_each}
 use Rattle.order.proofs.Queue.{any_none, held_none}
-use Rattle.order.proofs.Sets.{names_pow}
+use Rattle.congress.proofs.Sets.{names_pow}
 use Rattle.order.proofs.Sound.{Sound}
 use Rattle.order.specs.History.{Issued, History, issue_of, part_given, is_coordinated, part_done, with_done, with_fallen}
 use Rattle.order.specs.Plain.{Part}

@@ -14,7 +14,7 @@ use Rattle.order.proofs.Happens.{Room, Voted}
 use Rattle.order.proofs.Invariant.{agreed, Sayings, TrueVote, Genuine, Counted, last_of, Kept}
 use Rattle.order.proofs.Lists.{in_at, in_one, in_set, in_taken_out}
 use Rattle.order.proofs.Queue.{any_none}
-use Rattle.order.proofs.Sets.{names_or, names_pow}
+use Rattle.congress.proofs.Sets.{names_or, names_pow}
 use Rattle.order.specs.History.{History, issue_of, with_fallen}
 use Rattle.order.specs.Promises.{◌∈◌}
 use Rattle.records.specs.Halls.{names}

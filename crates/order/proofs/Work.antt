@@ -20,7 +20,7 @@ use Rattle.order.proofs.Invariant.{Sayings, Meant, Genuine, Agreed, Standing, la
 use Rattle.order.proofs.Lists.{in_at, in_one}
 use Rattle.order.proofs.Pages.{put, told_is, turned_is}
 use Rattle.order.proofs.Plain.{AfterOrApart}
-use Rattle.order.proofs.Sets.{names_all}
+use Rattle.congress.proofs.Sets.{names_all}
 use Rattle.order.proofs.Sound.{Sound, others_apart}
 use Rattle.order.proofs.Vote.{left_in, leaving_kept}
 use Rattle.order.specs.History.{Issued, History, issue_of, part_given, is_coordinated, part_done, with_done}
