@@ -115,14 +115,18 @@ kept_apart halls es i j k l m n = kept_between halls es k i j l m n
 
 -- Changes.
 
--- what holds of hall k once hall h has become x
-hall_now : (P : Hall → Type 0) (halls : List Hall) (h : ℕ) (x : Hall) (k : ℕ) → (k ≡ h → P x) → P (get_or halls k no_hall) → P (get_or (set halls h x) k no_hall)
-hall_now P halls h x k here else = elim (cases_eq k h) [
-  | inl e ↦ elim (cases_lt h (length halls)) [
-    | inl l ↦ subst P (sym (ap (λ (i : ℕ). get_or (set halls h x) i no_hall) e ∙ get_or-set_same halls h x no_hall l)) (here e)
-    | inr o ↦ subst (λ (l : List Hall). P (get_or l k no_hall)) (sym (set_past halls h x o)) else
-  ]
-  | inr n ↦ subst P (sym (get_or-set_other halls h k x no_hall n)) else
+-- what holds of hall k once hall h has become x, where h is in range and where it may not be
+pub by_hall : (P : Hall → Type 0) (halls : List Hall) (h : ℕ) (x : Hall) → h < length halls → (k : ℕ) → (k ≡ h → P x) → ((k ≡ h → ⊥) → P (get_or halls k no_hall))
+    → P (get_or (set halls h x) k no_hall)
+by_hall P halls h x l k here else = elim (cases_eq k h) [
+  | inl e ↦ subst P (sym (ap (λ (i : ℕ). get_or (set halls h x) i no_hall) e ∙ get_or-set_same halls h x no_hall l)) (here e)
+  | inr n ↦ subst P (sym (get_or-set_other halls h k x no_hall n)) (else n)
+]
+
+by_hall_any : (P : Hall → Type 0) (halls : List Hall) (h : ℕ) (x : Hall) (k : ℕ) → (k ≡ h → P x) → P (get_or halls k no_hall) → P (get_or (set halls h x) k no_hall)
+by_hall_any P halls h x k here else = elim (cases_lt h (length halls)) [
+  | inl l ↦ by_hall P halls h x l k here (λ _. else)
+  | inr o ↦ subst (λ (l : List Hall). P (get_or l k no_hall)) (sym (set_past halls h x o)) else
 ]
 
 -- a hall records more, and stays in locking mode or has no entry
@@ -147,7 +151,7 @@ kept_hall halls es h x k rise mode =
         let e = entry_in es i in
         let was = kept_at halls es i k l in (
           was.0,
-          hall_now (λ (y : Hall). suits y e ≡ true) halls h x e.hall
+          by_hall_any (λ (y : Hall). suits y e ≡ true) halls h x e.hall
               (λ here.
               let suit = subst (λ (j : ℕ). suits (get_or halls j no_hall) e ≡ true) here was.1 in
               suits_from x e (λ c. locking i l here (suits_locks old e suit c))

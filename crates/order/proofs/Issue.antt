@@ -3,6 +3,7 @@ use Rattle.std.proofs.Common.{◌≡◌, ℕ, ◌+◌, ◌≤◌, true, eqb, Lis
 use Rattle.std.specs.Int.Count.{ones}
 use Rattle.book.specs.Model.{Model}
 use Rattle.congress.proofs.Sent.{sent_count, requests_is}
+use Rattle.congress.proofs.Sets.{one_named, names_from}
 use Rattle.congress.specs.Calls.{draft_of, issued}
 use Rattle.congress.specs.Sending.{no_operation, to_hall, requests_below, requests}
 use Rattle.congress.specs.State.{Scene, scene, no_console, console_at, with_console, with_state}
@@ -14,7 +15,6 @@ use Rattle.order.proofs.Happens.{MayIssue}
 use Rattle.order.proofs.Invariant.{Sayings, Meant, Genuine, Numbered, sequences, Kept}
 use Rattle.order.proofs.Pages.{put, put_at}
 use Rattle.order.proofs.Posting.{in_to_each}
-use Rattle.congress.proofs.Sets.{one_named, names_from}
 use Rattle.order.proofs.Sound.{Sound}
 use Rattle.order.specs.History.{Issued, History, issue_of, with_issued}
 use Rattle.order.specs.Promises.{◌∈◌}

@@ -5,6 +5,11 @@ use Rattle.std.specs.Int.Count.{ones, ones_step}
 use lib.Bits.{and_zero_r}
 use lib.ListN.{get_or-replicate}
 use Rattle.book.specs.Model.{Model}
+use Rattle.congress.proofs.Apart.{TwoApart, apart_transactions, apart_from, flip_apart}
+use Rattle.congress.proofs.Between.{Between, between_push, between_set, between_without}
+use Rattle.congress.proofs.Kept.{WaitsWell, by_hall, voted_more, voted_new, suits_from, kept_from}
+use Rattle.congress.proofs.Places.{taken_out_length, taken_out_from}
+use Rattle.congress.proofs.Sets.{names_or_left, names_pow_self}
 use Rattle.congress.specs.Calls.{draft_of}
 use Rattle.congress.specs.Kept.{voted, locks, coordinated}
 use Rattle.congress.specs.Queue.{no_entry, entry_in, any_at, without}
@@ -20,15 +25,10 @@ use Rattle.congress.specs.declared.tables.Entry.{Entry}
 use Rattle.congress.specs.declared.tables.Hall.{Hall}
 use Rattle.congress.specs.declared.tables.Mode.{Mode}
 use Rattle.congress.specs.declared.tables.Mode.TheVariants.{Timestamp}
-use Rattle.congress.proofs.Apart.{TwoApart, apart_transactions, apart_from, flip_apart}
-use Rattle.congress.proofs.Between.{Between, between_push, between_set, between_without}
-use Rattle.congress.proofs.Kept.{WaitsWell, voted_more, voted_new, suits_from, kept_from}
-use Rattle.congress.proofs.Places.{taken_out_length, taken_out_from}
 use Rattle.order.proofs.Happens.{Asked, MayEnter, Voted, MayWork, Happens, refuses, passes, opens, issues, enters, runs, conflicts, aborts, counts, readies, removes, replies, confirms, frees, works, clocks, drops}
 use Rattle.order.proofs.Lists.{has_place, in_push, in_set, in_get, in_at, in_taken_out}
 use Rattle.order.proofs.Posting.{count_few}
 use Rattle.order.proofs.Queue.{held_none, any_none, any_some}
-use Rattle.congress.proofs.Sets.{names_or_left, names_pow_self}
 use Rattle.order.specs.Promises.{◌∈◌, WellKept}
 use Rattle.order.specs.declared.calls.Call.{Call}
 use Rattle.order.specs.declared.calls.Said.{Said}
@@ -222,14 +222,6 @@ entry_same s t e opened halls k = entry_views s t e opened
     (let a = ap (λ (hs : List Hall). get_or (get_or hs e.hall no_hall).taken (console e.transaction) 0) halls in omega arith)
     k
 
--- what holds of hall k once hall h has become x
-by_hall : (P : Hall → Type 0) (s : State) (h : ℕ) (x : Hall) → h < length s.halls → (k : ℕ) → (k ≡ h → P x) → ((k ≡ h → ⊥) → P (hall_at s k))
-    → P (hall_at (with_hall s h x) k)
-by_hall P s h x l k here else = elim (cases_eq k h) [
-  | inl e ↦ subst P (sym (ap (hall_at (with_hall s h x)) e ∙ get_or-set_same s.halls h x no_hall l)) (here e)
-  | inr n ↦ subst P (sym (get_or-set_other s.halls h k x no_hall n)) (else n)
-]
-
 -- the small changes
 module _ (s : State) (k : Steady s) where
   within : (h : ℕ) → h < s.opened → h < length s.halls
@@ -241,14 +233,14 @@ module _ (s : State) (k : Steady s) where
     few = k.few;
     eight = length-set s.halls h x ∙ k.eight;
     sixteen = k.sixteen;
-    taken = λ i low. by_hall (λ w. length w.taken ≡ 16) s h x (within h l) i (λ _. size) (λ _. k.taken i low);
+    taken = λ i low. by_hall (λ w. length w.taken ≡ 16) s.halls h x (within h l) i (λ _. size) (λ _. k.taken i low);
     few_messages = k.few_messages;
     few_entries = k.few_entries;
     apart = k.apart;
     each = λ e m. entry_views s (with_hall s h x) e refl
-        (by_hall (λ w. locks w.mode ≡ locks (hall_at s e.hall).mode) s h x (within h l) e.hall
+        (by_hall (λ w. locks w.mode ≡ locks (hall_at s e.hall).mode) s.halls h x (within h l) e.hall
         (λ q. mode e m q ∙ ap (λ (i : ℕ). locks (hall_at s i).mode) (sym q)) (λ _. refl))
-        (by_hall (λ w. get_or (hall_at s e.hall).taken (console e.transaction) 0 ≤ get_or w.taken (console e.transaction) 0) s h x (within h l) e.hall
+        (by_hall (λ w. get_or (hall_at s e.hall).taken (console e.transaction) 0 ≤ get_or w.taken (console e.transaction) 0) s.halls h x (within h l) e.hall
         (λ q. subst (λ (i : ℕ). get_or (hall_at s i).taken (console e.transaction) 0 ≤ get_or x.taken (console e.transaction) 0) (sym q) (rise (console e.transaction)))
         (λ _. omega arith))
         (k.each e m);
@@ -325,7 +317,7 @@ module _ (s : State) (k : Sound s) where
   sound_hall h x l size rise mode =
       let same : locks x.mode ≡ locks (hall_at s h).mode = ap locks mode in
       sound (with_hall s h x) (steady_hall s (steady s k) h x l size rise (λ _ _ _. same))
-      (λ i low. by_hall (λ w. locks w.mode ≡ true → any_at i s.entries ≡ true) s h x (within s (steady s k) h l) i
+      (λ i low. by_hall (λ w. locks w.mode ≡ true → any_at i s.entries ≡ true) s.halls h x (within s (steady s k) h l) i
       (λ e locking. k.settled i low (ap (λ (j : ℕ). locks (hall_at s j).mode) e ∙ (sym same ∙ locking)))
       (λ _ locking. k.settled i low locking))
 
@@ -339,7 +331,7 @@ module _ (s : State) (k : Sound s) where
       (either_mode (λ w. length w.taken ≡ 16) (k.taken h below) (k.taken h below))
       (λ c. either_mode (λ w. get_or hall.taken c 0 ≤ get_or w.taken c 0) (omega arith) (omega arith))
       (λ e m p. ap (λ (w : Hall). locks w.mode) (cond-true (any_at h q) hall (with_mode hall Timestamp) (any_some h q e m p))))
-      (λ j low. by_hall (λ w. locks w.mode ≡ true → any_at j q ≡ true) left h x (within s st h l) j
+      (λ j low. by_hall (λ w. locks w.mode ≡ true → any_at j q ≡ true) left.halls h x (within s st h l) j
       (λ e locking. ap (λ (a : ℕ). any_at a q) e ∙ has_entry locking)
       (λ n locking. any_without j s.entries i in_range (λ e. n (sym e ∙ here)) (k.settled j low locking)))
     where
@@ -465,7 +457,7 @@ module _ (m : Model) (s : Scene) (k : Sound s.world.state) (place : ℕ) (r : Re
         sound (with_entries (with_hall st r.to hall_now) (st.entries ++ (new ∷ [])))
         (steady_push (with_hall st r.to hall_now) (steady_hall st (steady st k) r.to hall_now laws.0 size_now rise same) new may.room
         (λ e i. apart_from e new (λ p. (not_waiting e i p, new_keys e i p))) new_sound)
-        (λ i below. by_hall (λ w. locks w.mode ≡ true → any_at i (st.entries ++ (new ∷ [])) ≡ true) st r.to hall_now l i
+        (λ i below. by_hall (λ w. locks w.mode ≡ true → any_at i (st.entries ++ (new ∷ [])) ≡ true) st.halls r.to hall_now l i
         (λ e _. any_push_here i st.entries new (sym e)) (λ _ locking. any_push i st.entries new (k.settled i below locking)))
 
 -- A vote that is counted.
