@@ -1,2 +1,8 @@
+-- the requests that are sent
 pub mod Sent
-pub mod Modes
+-- sets of halls, and what every congress keeps of its queue
+pub mod Sets
+pub mod Places
+pub mod Between
+pub mod Apart
+pub mod Kept

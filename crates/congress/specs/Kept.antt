@@ -1,11 +1,13 @@
 -- What every congress keeps, besides its bounds of 8 halls, 64 entries and 1,024 messages.
-use Rattle.std.specs.Prelude.{Bool, true, false, not, ◌&&◌, ◌||◌, List, [], ◌∷◌, map, ◌==◌, bit_and, bit_or, slice_index_or}
+use Rattle.std.specs.Prelude.{Bool, true, false, not, ◌&&◌, ◌||◌, List, [], ◌∷◌, ◌==◌, bit_and, bit_or, nat_le, slice_index_or}
 use Rattle.std.specs.List.{list_all}
+use Rattle.congress.specs.State.{no_hall}
 use Rattle.congress.specs.declared.tables.Entry.{Entry}
 use Rattle.congress.specs.declared.tables.Hall.{Hall}
 use Rattle.congress.specs.declared.tables.Mode.TheVariants.{Timestamp, Locking}
 use Rattle.congress.specs.declared.tables.Mode.{Mode}
 use Rattle.records.specs.Halls.{names}
+use Rattle.records.specs.Transactions.{console, sequence}
 use Rattle.records.specs.declared.classes.Class.TheVariants.{Single, Independent, Coordinated}
 use Rattle.records.specs.declared.classes.Class.{Class}
 
@@ -22,21 +24,15 @@ coordinated Single = false
 coordinated Independent = false
 coordinated Coordinated = true
 
--- a coordinated entry waits only at a hall in locking mode
-abbrev pub suits : List Mode → Entry → Bool
-suits modes e = not (coordinated e.class) || locks (slice_index_or modes e.hall Timestamp)
+-- at its hall: a coordinated entry waits only in locking mode, and the entry's sequence has been taken
+abbrev pub suits : Hall → Entry → Bool
+suits hall e = (not (coordinated e.class) || locks hall.mode) && nat_le (sequence e.transaction) (slice_index_or hall.taken (console e.transaction) 0)
 
 -- at one hall, two entries differ in transaction and hold no key together
 abbrev pub apart : Entry → Entry → Bool
 apart x y = not (x.hall == y.hall) || (not (x.transaction == y.transaction) && bit_and x.keys y.keys == 0)
 
-abbrev pub kept_entries : List Mode → List Entry → Bool
-kept_entries modes [] = true
-kept_entries modes (e ∷ es) = voted e && (suits modes e && (list_all (apart e) es && kept_entries modes es))
-
-abbrev pub mode_of : Hall → Mode
-mode_of hall = hall.mode
-
 -- of the halls of a congress, and of the entries that wait
 abbrev pub kept : List Hall → List Entry → Bool
-kept halls entries = kept_entries (map mode_of halls) entries
+kept halls [] = true
+kept halls (e ∷ es) = voted e && (suits (slice_index_or halls e.hall no_hall) e && (list_all (apart e) es && kept halls es))

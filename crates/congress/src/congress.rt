@@ -117,7 +117,7 @@ impl Congress {
     }
 
     // Sets the clock of a hall, whose mode stays; a caller may give any number for one.
-    #[tactic(auto, using(crate::proofs::Modes::modes_stay))]
+    #[tactic(auto, using(crate::proofs::Kept::kept_clock))]
     pub fn set_clock(&mut self, hall: u8, time: u64) -> Result<(), Refusal>
         ensures step { (result, state self.new) ≡ clock_step (state self.old) hall time }
         ensures refused { Untouched result (state self.old) (state self.new) }

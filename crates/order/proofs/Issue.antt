@@ -14,7 +14,7 @@ use Rattle.order.proofs.Happens.{MayIssue}
 use Rattle.order.proofs.Invariant.{Sayings, Meant, Genuine, Numbered, sequences, Kept}
 use Rattle.order.proofs.Pages.{put, put_at}
 use Rattle.order.proofs.Posting.{in_to_each}
-use Rattle.order.proofs.Sets.{one_named, names_from}
+use Rattle.congress.proofs.Sets.{one_named, names_from}
 use Rattle.order.proofs.Sound.{Sound}
 use Rattle.order.specs.History.{Issued, History, issue_of, with_issued}
 use Rattle.order.specs.Promises.{◌∈◌}

@@ -1,6 +1,5 @@
--- lists, sets of halls, functions of the hall
+-- lists, functions of the hall
 pub mod Lists
-pub mod Sets
 pub mod Pages
 -- the plain order, the queue and the post
 pub mod Plain
@@ -10,7 +9,6 @@ pub mod Posting
 pub mod Happens
 pub mod Cases
 -- what every congress keeps
-pub mod Between
 pub mod Sound
 -- what is kept of the order, by small changes and by each call
 pub mod Invariant

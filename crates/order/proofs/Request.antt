@@ -4,6 +4,7 @@ use Rattle.std.specs.Prelude.{bit_and, unwrap_or}
 use Rattle.book.proofs.Apart.{apart_sym}
 use Rattle.book.specs.Apart.{Apart}
 use Rattle.book.specs.Model.{Page, Model, Lawful, turned}
+use Rattle.congress.proofs.Sets.{names_pow}
 use Rattle.congress.specs.Kept.{locks}
 use Rattle.congress.specs.Requests.{hall_of, class_in, verdict, recorded, mode_for, locked_for, entry_for, sent, entering, running, recording}
 use Rattle.congress.specs.Sending.{is_other, vote_to, votes_of, reply_of}
@@ -23,7 +24,6 @@ use Rattle.order.proofs.Lists.{in_push, in_append, in_one}
 use Rattle.order.proofs.Pages.{put, told_is, turned_is}
 use Rattle.order.proofs.Posting.{in_to_each}
 use Rattle.order.proofs.Queue.{any_none, held_none}
-use Rattle.order.proofs.Sets.{names_pow}
 use Rattle.order.proofs.Sound.{Sound}
 use Rattle.order.specs.History.{Issued, History, issue_of, part_given, is_coordinated, part_done, with_done, with_fallen}
 use Rattle.order.specs.Plain.{Part}

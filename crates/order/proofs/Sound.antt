@@ -1,13 +1,17 @@
 -- What every call keeps of the tables and the queue, whatever the post holds.
-use Rattle.std.proofs.Common.{◌≡◌, ℕ, zero, suc, ◌+◌, ◌-◌, ◌/◌, ◌%◌, ◌^◌, ◌<◌, ◌≤◌, max, Bool, true, false, not, ◌&&◌, ◌||◌, ltb, List, [], ◌∷◌, ◌++◌, length, get_or, set, map, Result, sym, refl, ap, ◌∙◌, subst, inl, inr, add-one, append-nil, arith, length-set, get_or-set_other, get_or-set_same}
-use Rattle.std.specs.Prelude.{◌==◌, bit_and, bit_or, count_ones}
-use Rattle.std.specs.List.{list_all}
+use Rattle.std.proofs.Common.{◌≡◌, ℕ, zero, suc, ◌+◌, ◌-◌, ◌/◌, ◌%◌, ◌^◌, ◌<◌, ◌≤◌, max, true, false, ltb, List, [], ◌∷◌, ◌++◌, length, get_or, set, Result, sym, refl, ap, ◌∙◌, subst, inl, inr, add-one, append-nil, arith, length-set, get_or-set_other, get_or-set_same}
+use Rattle.std.specs.Prelude.{◌==◌, bit_and, count_ones}
 use Rattle.std.specs.Int.Count.{ones, ones_step}
-use lib.Bits.{and_comm, and_zero_r}
+use lib.Bits.{and_zero_r}
 use lib.ListN.{get_or-replicate}
 use Rattle.book.specs.Model.{Model}
+use Rattle.congress.proofs.Apart.{TwoApart, apart_transactions, apart_from, flip_apart}
+use Rattle.congress.proofs.Between.{Between, between_push, between_set, between_without}
+use Rattle.congress.proofs.Kept.{WaitsWell, by_hall, voted_more, voted_new, suits_from, kept_from}
+use Rattle.congress.proofs.Places.{taken_out_length, taken_out_from}
+use Rattle.congress.proofs.Sets.{names_or_left, names_pow_self}
 use Rattle.congress.specs.Calls.{draft_of}
-use Rattle.congress.specs.Kept.{voted, locks, coordinated, suits, apart, kept_entries, mode_of}
+use Rattle.congress.specs.Kept.{voted, locks, coordinated}
 use Rattle.congress.specs.Queue.{no_entry, entry_in, any_at, without}
 use Rattle.congress.specs.Requests.{hall_of, class_in, recorded, mode_for, locked_for, entry_for}
 use Rattle.congress.specs.Sending.{no_operation, to_hall, requests_below, requests}
@@ -21,12 +25,10 @@ use Rattle.congress.specs.declared.tables.Entry.{Entry}
 use Rattle.congress.specs.declared.tables.Hall.{Hall}
 use Rattle.congress.specs.declared.tables.Mode.{Mode}
 use Rattle.congress.specs.declared.tables.Mode.TheVariants.{Timestamp}
-use Rattle.order.proofs.Between.{Between, between_push, between_set, between_without}
 use Rattle.order.proofs.Happens.{Asked, MayEnter, Voted, MayWork, Happens, refuses, passes, opens, issues, enters, runs, conflicts, aborts, counts, readies, removes, replies, confirms, frees, works, clocks, drops}
-use Rattle.order.proofs.Lists.{has_place, in_push, in_set, in_get, in_at, in_taken_out, taken_out_length, taken_out_from}
+use Rattle.order.proofs.Lists.{has_place, in_push, in_set, in_get, in_at, in_taken_out}
 use Rattle.order.proofs.Posting.{count_few}
 use Rattle.order.proofs.Queue.{held_none, any_none, any_some}
-use Rattle.order.proofs.Sets.{bit_or_cases, bit_or_left, bit_pow, names_parts, names_from, names_or_left, names_pow_self}
 use Rattle.order.specs.Promises.{◌∈◌, WellKept}
 use Rattle.order.specs.declared.calls.Call.{Call}
 use Rattle.order.specs.declared.calls.Said.{Said}
@@ -39,11 +41,11 @@ use Rattle.records.specs.declared.messages.Message.{Message}
 use Rattle.records.specs.declared.messages.Message.TheVariants.{Request as request}
 use Rattle.records.specs.declared.messages.Request.{Request}
 use Rattle.records.specs.declared.messages.Vote.{Vote}
-use Rattle.std.proofs.lemmas.Bool.{and_parts, and_from, or_cases, or_left, or_right, not-true, eqb-true, eqb-false, eq-eqb, ltb-true, true≢false, cond_both, cond-true, cases_eq, cases_Bool, ne_eqb, not_from_false}
-use Rattle.std.proofs.lemmas.List.{get_or-map, get_or-take, length_push}
+use Rattle.std.proofs.lemmas.Bool.{and_parts, or_cases, or_left, or_right, eqb-true, eqb-false, eq-eqb, ltb-true, true≢false, cond_both, cond-true, cases_eq, cases_Bool}
+use Rattle.std.proofs.lemmas.List.{get_or-take, length_push}
+use Rattle.std.proofs.lemmas.List.Elements.{All-from_get_or}
 use Rattle.std.proofs.lemmas.List.Folds.{list_any-append}
 use Rattle.std.proofs.lemmas.Nat.{shr-shr}
-use Rattle.std.proofs.lemmas.Nat.Bits.{bit_at_or, bit_at-lt, same_from_bits}
 
 -- what every entry keeps
 pub record EntrySound (s : State) (e : Entry) : Type 0 where
@@ -54,9 +56,6 @@ pub record EntrySound (s : State) (e : Entry) : Type 0 where
   -- its hall is open, and has recorded its sequence
   pub exists : e.hall < s.opened
   pub recorded : sequence e.transaction ≤ get_or (hall_at s e.hall).taken (console e.transaction) 0
-
-abbrev pub TwoApart : Entry → Entry → Type 0
-TwoApart x y = apart x y ≡ true
 
 pub record Sound (s : State) : Type 0 where
   pub few : s.opened ≤ 8
@@ -69,39 +68,6 @@ pub record Sound (s : State) : Type 0 where
   pub each : (e : Entry) → e ∈ s.entries → EntrySound s e
   -- a hall without entries is in timestamp mode
   pub settled : (h : ℕ) → h < 8 → locks (hall_at s h).mode ≡ true → any_at h s.entries ≡ true
-
--- Two entries that are apart.
-
-apart_here : (x y : Entry) → TwoApart x y → x.hall ≡ y.hall → (not (x.transaction == y.transaction) && bit_and x.keys y.keys == 0) ≡ true
-apart_here x y h e =
-    elim (or_cases (not (x.hall == y.hall)) (not (x.transaction == y.transaction) && bit_and x.keys y.keys == 0) h) [
-      | inl n ↦ absurd (true≢false (sym (eq-eqb x.hall y.hall e) ∙ not-true (x.hall == y.hall) n))
-      | inr b ↦ b
-    ]
-
-pub apart_transactions : (x y : Entry) → TwoApart x y → x.hall ≡ y.hall → x.transaction ≡ y.transaction → ⊥
-apart_transactions x y h e t =
-    let n = (and_parts (not (x.transaction == y.transaction)) (bit_and x.keys y.keys == 0) (apart_here x y h e)).0 in
-    true≢false (sym (eq-eqb x.transaction y.transaction t) ∙ not-true (x.transaction == y.transaction) n)
-
-pub apart_keys : (x y : Entry) → TwoApart x y → x.hall ≡ y.hall → bit_and x.keys y.keys ≡ 0
-apart_keys x y h e =
-    eqb-true (bit_and x.keys y.keys) 0 (and_parts (not (x.transaction == y.transaction)) (bit_and x.keys y.keys == 0) (apart_here x y h e)).1
-
-apart_from : (x y : Entry) → (x.hall ≡ y.hall → (x.transaction ≡ y.transaction → ⊥) × (bit_and x.keys y.keys ≡ 0)) → TwoApart x y
-apart_from x y f =
-    let rest = not (x.transaction == y.transaction) && bit_and x.keys y.keys == 0 in
-    elim (cases_eq x.hall y.hall) [
-      | inl e ↦ let k = f e in
-          or_right (not (x.hall == y.hall)) rest
-          (and_from (not (x.transaction == y.transaction)) (bit_and x.keys y.keys == 0)
-          (not_from_false (x.transaction == y.transaction) (ne_eqb x.transaction y.transaction k.0)) (eq-eqb (bit_and x.keys y.keys) 0 k.1))
-      | inr n ↦ or_left (not (x.hall == y.hall)) rest (not_from_false (x.hall == y.hall) (ne_eqb x.hall y.hall n))
-    ]
-
-flip_apart : (x y : Entry) → TwoApart x y → TwoApart y x
-flip_apart x y h = apart_from y x
-    (λ e. (λ t. apart_transactions x y h (sym e) (sym t), and_comm y.keys x.keys ∙ apart_keys x y h (sym e)))
 
 -- the others of the hall are of other transactions
 pub others_apart : (s : State) → Sound s → (i : ℕ) → i < length s.entries → (e : Entry) → e ∈ without s.entries i
@@ -135,41 +101,7 @@ opened_sound n l = record {
   settled = λ h below locking. absurd (true≢false (sym locking ∙ ap (λ (x : Hall). locks x.mode) (get_or-replicate 8 h new_hall no_hall below)));
 }
 
--- Sets of halls.
-
--- what lies in a set adds nothing to it
-or_within : (a m : ℕ) → ((k : ℕ) → bit a k ≡ true → bit m k ≡ true) → bit_or a m ≡ m
-or_within a m within = same_from_bits (bit_or a m) m (λ i.
-    let both = bit_at_or a m i in
-    let one = bit_at-lt a i in
-    let other = bit_at-lt m i in
-    elim (cases_Bool (bit a i)) [
-      | inl y ↦ let p = eqb-true (a / 2 ^ i % 2) 1 y in let q = eqb-true (m / 2 ^ i % 2) 1 (within i y) in omega arith
-      | inr n ↦ let p = eqb-false (a / 2 ^ i % 2) 1 n in omega arith
-    ])
-
-pub within_or : (a m k : ℕ) → bit_or a m ≡ m → bit a k ≡ true → bit m k ≡ true
-within_or a m k e h = subst (λ (w : ℕ). bit w k ≡ true) e (bit_or_left a m k h)
-
-or_pow : (m h : ℕ) → bit m h ≡ true → bit_or (2 ^ h) m ≡ m
-or_pow m h b = or_within (2 ^ h) m (λ k p. subst (λ (i : ℕ). bit m i ≡ true) (sym (bit_pow h k p)) b)
-
-or_pow_more : (votes m h : ℕ) → bit_or votes m ≡ m → bit m h ≡ true → bit_or (bit_or votes (2 ^ h)) m ≡ m
-or_pow_more votes m h e b = or_within (bit_or votes (2 ^ h)) m (λ k p. elim (bit_or_cases votes (2 ^ h) k p) [
-  | inl q ↦ within_or votes m k e q
-  | inr q ↦ subst (λ (i : ℕ). bit m i ≡ true) (sym (bit_pow h k q)) b
-])
-
-voted_from : (e : Entry) → bit_or e.votes e.halls ≡ e.halls → names e.votes e.hall ≡ true → voted e ≡ true
-voted_from e among own = and_from (bit_or e.votes e.halls == e.halls) (names e.votes e.hall) (eq-eqb (bit_or e.votes e.halls) e.halls among) own
-
-pub votes_within : (e : Entry) → voted e ≡ true → bit_or e.votes e.halls ≡ e.halls
-votes_within e h = eqb-true (bit_or e.votes e.halls) e.halls (and_parts (bit_or e.votes e.halls == e.halls) (names e.votes e.hall) h).0
-
-pub votes_named : (e : Entry) → voted e ≡ true → (k : ℕ) → names e.votes k ≡ true → names e.halls k ≡ true
-votes_named e h k n =
-    let p = names_parts e.votes k n in
-    names_from e.halls k p.0 (within_or e.votes e.halls k (votes_within e h) p.1)
+-- Requests.
 
 -- the requests to the halls below n, and the halls still to come, are the halls named
 to_come : (draft : Request) (operations : List Operation) (n : ℕ) → length (requests_below draft operations n) + ones (draft.halls / 2 ^ n) ≡ ones draft.halls
@@ -290,14 +222,6 @@ entry_same s t e opened halls k = entry_views s t e opened
     (let a = ap (λ (hs : List Hall). get_or (get_or hs e.hall no_hall).taken (console e.transaction) 0) halls in omega arith)
     k
 
--- what holds of hall k once hall h has become x
-by_hall : (P : Hall → Type 0) (s : State) (h : ℕ) (x : Hall) → h < length s.halls → (k : ℕ) → (k ≡ h → P x) → ((k ≡ h → ⊥) → P (hall_at s k))
-    → P (hall_at (with_hall s h x) k)
-by_hall P s h x l k here else = elim (cases_eq k h) [
-  | inl e ↦ subst P (sym (ap (hall_at (with_hall s h x)) e ∙ get_or-set_same s.halls h x no_hall l)) (here e)
-  | inr n ↦ subst P (sym (get_or-set_other s.halls h k x no_hall n)) (else n)
-]
-
 -- the small changes
 module _ (s : State) (k : Steady s) where
   within : (h : ℕ) → h < s.opened → h < length s.halls
@@ -309,14 +233,14 @@ module _ (s : State) (k : Steady s) where
     few = k.few;
     eight = length-set s.halls h x ∙ k.eight;
     sixteen = k.sixteen;
-    taken = λ i low. by_hall (λ w. length w.taken ≡ 16) s h x (within h l) i (λ _. size) (λ _. k.taken i low);
+    taken = λ i low. by_hall (λ w. length w.taken ≡ 16) s.halls h x (within h l) i (λ _. size) (λ _. k.taken i low);
     few_messages = k.few_messages;
     few_entries = k.few_entries;
     apart = k.apart;
     each = λ e m. entry_views s (with_hall s h x) e refl
-        (by_hall (λ w. locks w.mode ≡ locks (hall_at s e.hall).mode) s h x (within h l) e.hall
+        (by_hall (λ w. locks w.mode ≡ locks (hall_at s e.hall).mode) s.halls h x (within h l) e.hall
         (λ q. mode e m q ∙ ap (λ (i : ℕ). locks (hall_at s i).mode) (sym q)) (λ _. refl))
-        (by_hall (λ w. get_or (hall_at s e.hall).taken (console e.transaction) 0 ≤ get_or w.taken (console e.transaction) 0) s h x (within h l) e.hall
+        (by_hall (λ w. get_or (hall_at s e.hall).taken (console e.transaction) 0 ≤ get_or w.taken (console e.transaction) 0) s.halls h x (within h l) e.hall
         (λ q. subst (λ (i : ℕ). get_or (hall_at s i).taken (console e.transaction) 0 ≤ get_or x.taken (console e.transaction) 0) (sym q) (rise (console e.transaction)))
         (λ _. omega arith))
         (k.each e m);
@@ -369,7 +293,7 @@ module _ (s : State) (k : Steady s) where
       → Steady (with_entries s (s.entries ++ (x ∷ [])))
   steady_push x room apart_from_all ok = steady_entries (s.entries ++ (x ∷ []))
       (let z = length_push s.entries x in omega arith)
-      (between_push TwoApart flip_apart s.entries x k.apart apart_from_all)
+      (between_push TwoApart flip_apart s.entries x k.apart (λ i l. apart_from_all (entry_in s.entries i) (in_get s.entries i no_entry l)))
       (λ e m. elim (in_push e s.entries x m) [ inl i ↦ k.each e i | inr p ↦ subst (EntrySound s) (sym p) ok ])
 
   steady_set : (i : ℕ) (x : Entry) → ((f : Entry) → TwoApart (entry_in s.entries i) f → TwoApart x f) → EntrySound s x
@@ -393,7 +317,7 @@ module _ (s : State) (k : Sound s) where
   sound_hall h x l size rise mode =
       let same : locks x.mode ≡ locks (hall_at s h).mode = ap locks mode in
       sound (with_hall s h x) (steady_hall s (steady s k) h x l size rise (λ _ _ _. same))
-      (λ i low. by_hall (λ w. locks w.mode ≡ true → any_at i s.entries ≡ true) s h x (within s (steady s k) h l) i
+      (λ i low. by_hall (λ w. locks w.mode ≡ true → any_at i s.entries ≡ true) s.halls h x (within s (steady s k) h l) i
       (λ e locking. k.settled i low (ap (λ (j : ℕ). locks (hall_at s j).mode) e ∙ (sym same ∙ locking)))
       (λ _ locking. k.settled i low locking))
 
@@ -407,7 +331,7 @@ module _ (s : State) (k : Sound s) where
       (either_mode (λ w. length w.taken ≡ 16) (k.taken h below) (k.taken h below))
       (λ c. either_mode (λ w. get_or hall.taken c 0 ≤ get_or w.taken c 0) (omega arith) (omega arith))
       (λ e m p. ap (λ (w : Hall). locks w.mode) (cond-true (any_at h q) hall (with_mode hall Timestamp) (any_some h q e m p))))
-      (λ j low. by_hall (λ w. locks w.mode ≡ true → any_at j q ≡ true) left h x (within s st h l) j
+      (λ j low. by_hall (λ w. locks w.mode ≡ true → any_at j q ≡ true) left.halls h x (within s st h l) j
       (λ e locking. ap (λ (a : ℕ). any_at a q) e ∙ has_entry locking)
       (λ n locking. any_without j s.entries i in_range (λ e. n (sym e ∙ here)) (k.settled j low locking)))
     where
@@ -521,7 +445,7 @@ module _ (m : Model) (s : Scene) (k : Sound s.world.state) (place : ℕ) (r : Re
         let own = names_pow_self r.to low in
         record {
           own = own;
-          voted = voted_from new (or_pow r.halls r.to (names_parts r.halls r.to laws.1).1) own;
+          voted = voted_new new refl laws.1;
           locked = λ c. ap (λ (w : Hall). locks w.mode) here ∙ ap (λ (d : Class). locks (mode_for hall.mode d)) c;
           exists = laws.0;
           recorded = let e = ap (λ (w : Hall). get_or w.taken (console r.transaction) 0) here ∙ taken_here in omega arith;
@@ -533,7 +457,7 @@ module _ (m : Model) (s : Scene) (k : Sound s.world.state) (place : ℕ) (r : Re
         sound (with_entries (with_hall st r.to hall_now) (st.entries ++ (new ∷ [])))
         (steady_push (with_hall st r.to hall_now) (steady_hall st (steady st k) r.to hall_now laws.0 size_now rise same) new may.room
         (λ e i. apart_from e new (λ p. (not_waiting e i p, new_keys e i p))) new_sound)
-        (λ i below. by_hall (λ w. locks w.mode ≡ true → any_at i (st.entries ++ (new ∷ [])) ≡ true) st r.to hall_now l i
+        (λ i below. by_hall (λ w. locks w.mode ≡ true → any_at i (st.entries ++ (new ∷ [])) ≡ true) st.halls r.to hall_now l i
         (λ e _. any_push_here i st.entries new (sym e)) (λ _ locking. any_push i st.entries new (k.settled i below locking)))
 
 -- A vote that is counted.
@@ -546,7 +470,7 @@ sound_counts s k place v i e met =
     sound (with_entries st (set st.entries i (counted e v)))
     (steady_set st (steady st k) i (counted e v) (λ f x. subst (λ w. TwoApart w f) met.is x) (record {
       own = own;
-      voted = voted_from (counted e v) (or_pow_more e.votes e.halls v.from (votes_within e was.voted) (names_parts e.halls v.from met.named).1) own;
+      voted = voted_more e v.from (max e.stamp v.stamp) was.voted met.named;
       locked = was.locked;
       exists = was.exists;
       recorded = was.recorded;
@@ -596,44 +520,21 @@ sound_step {m} {s} (drops place long there) k = sound_count s.world.state k _ (l
 
 -- What is sound is well kept.
 
-all_apart : (x : Entry) (q : List Entry) → ((y : Entry) → y ∈ q → TwoApart x y) → list_all (apart x) q ≡ true
-all_apart x [] f = refl
-all_apart x (y ∷ ys) f = and_from (apart x y) (list_all (apart x) ys) (f y (inl refl)) (all_apart x ys (λ z m. f z (inr m)))
-
-kept_from : (modes : List Mode) (q : List Entry) → ((e : Entry) → e ∈ q → voted e ≡ true) → ((e : Entry) → e ∈ q → suits modes e ≡ true) → Between TwoApart q
-    → kept_entries modes q ≡ true
-kept_from modes [] votes waits between = refl
-kept_from modes (x ∷ xs) votes waits between =
-    and_from (voted x) _ (votes x (inl refl))
-    (and_from (suits modes x) _ (waits x (inl refl))
-    (and_from (list_all (apart x) xs) (kept_entries modes xs) (all_apart x xs later)
-    (kept_from modes xs (λ e m. votes e (inr m)) (λ e m. waits e (inr m)) (λ i j l n o. between (suc i) (suc j) (omega arith) (omega arith) (λ e. o (omega arith))))))
-  where
-    later : (y : Entry) → y ∈ xs → TwoApart x y
-    later y m =
-        let p = has_place xs y no_entry m in
-        let l = p.1 in
-        subst (TwoApart x) (sym p.2) (between 0 (suc p.0) (omega arith) (omega arith) (omega arith))
-
-suits_class : (class : Class) (locking : Bool) → (class ≡ Coordinated → locking ≡ true) → (not (coordinated class) || locking) ≡ true
-suits_class Single locking f = refl
-suits_class Independent locking f = refl
-suits_class Coordinated locking f = f refl
+is_coordinated : (c : Class) → coordinated c ≡ true → c ≡ Coordinated
+is_coordinated Single f = absurd (true≢false (sym f))
+is_coordinated Independent f = absurd (true≢false (sym f))
+is_coordinated Coordinated f = refl
 
 pub well_kept : (s : State) → Sound s → WellKept s
 well_kept s k = record {
   few_halls = k.few;
   few_entries = k.few_entries;
   few_messages = k.few_messages;
-  kept = kept_from (map mode_of s.halls) s.entries (λ e m. (k.each e m).voted) waits k.apart;
+  kept = kept_from s.halls s.entries (All-from_get_or (WaitsWell s.halls) s.entries no_entry (λ i l. fits (entry_in s.entries i) (in_get s.entries i no_entry l))) k.apart;
   settled = k.settled;
 }
   where
-    waits : (e : Entry) → e ∈ s.entries → suits (map mode_of s.halls) e ≡ true
-    waits e m =
+    fits : (e : Entry) → e ∈ s.entries → WaitsWell s.halls e
+    fits e m =
         let was = k.each e m in
-        let exists = was.exists in
-        let few = k.few in
-        let eight = k.eight in
-        suits_class e.class (locks (get_or (map mode_of s.halls) e.hall Timestamp))
-        (λ c. ap locks (get_or-map mode_of s.halls e.hall no_hall Timestamp (omega arith)) ∙ was.locked c)
+        (was.voted, suits_from (hall_at s e.hall) e (λ c. was.locked (is_coordinated e.class c)) was.recorded)

@@ -1,6 +1,7 @@
 -- Deliver, of a vote; and how an entry leaves.
 use Rattle.std.proofs.Common.{◌≡◌, ℕ, ◌^◌, ◌<◌, ◌≤◌, List, [], ◌∷◌, length, get_or, set, refl, sym, ap, ◌∙◌, subst, inl, inr, arith}
 use Rattle.book.specs.Model.{Model}
+use Rattle.congress.proofs.Sets.{names_or, names_pow}
 use Rattle.congress.specs.Kept.{locks}
 use Rattle.congress.specs.Queue.{no_entry, any_at, without}
 use Rattle.congress.specs.Sending.{no_answer, reply_of}
@@ -14,7 +15,6 @@ use Rattle.order.proofs.Happens.{Room, Voted}
 use Rattle.order.proofs.Invariant.{agreed, Sayings, TrueVote, Genuine, Counted, last_of, Kept}
 use Rattle.order.proofs.Lists.{in_at, in_one, in_set, in_taken_out}
 use Rattle.order.proofs.Queue.{any_none}
-use Rattle.order.proofs.Sets.{names_or, names_pow}
 use Rattle.order.specs.History.{History, issue_of, with_fallen}
 use Rattle.order.specs.Promises.{◌∈◌}
 use Rattle.records.specs.Halls.{names}

@@ -4,6 +4,7 @@ use Rattle.std.specs.Prelude.{bit_and}
 use Rattle.book.proofs.Apart.{apart_sym}
 use Rattle.book.specs.Apart.{Apart}
 use Rattle.book.specs.Model.{Page, Model, Lawful, turned}
+use Rattle.congress.proofs.Sets.{names_all}
 use Rattle.congress.specs.Queue.{no_entry, without}
 use Rattle.congress.specs.Sending.{no_operation, reply_of}
 use Rattle.congress.specs.State.{State, Scene, scene, hall_at, with_state}
@@ -20,7 +21,6 @@ use Rattle.order.proofs.Invariant.{Sayings, Meant, Genuine, Agreed, Standing, la
 use Rattle.order.proofs.Lists.{in_at, in_one}
 use Rattle.order.proofs.Pages.{put, told_is, turned_is}
 use Rattle.order.proofs.Plain.{AfterOrApart}
-use Rattle.order.proofs.Sets.{names_all}
 use Rattle.order.proofs.Sound.{Sound, others_apart}
 use Rattle.order.proofs.Vote.{left_in, leaving_kept}
 use Rattle.order.specs.History.{Issued, History, issue_of, part_given, is_coordinated, part_done, with_done}

@@ -2,8 +2,7 @@
 use Rattle.std.proofs.Common.{◌≡◌, ℕ, ◌-◌, ◌<◌, ◌⊎◌, List, [], ◌∷◌, ◌++◌, length, set, sym, ap, ◌∙◌, subst, inl, inr, arith, length-set, get_or-set_other, get_or-set_same}
 use Rattle.congress.specs.Queue.{no_entry, entry_in, without}
 use Rattle.congress.specs.declared.tables.Entry.{Entry}
-use Rattle.order.proofs.Lists.{in_get, taken_out_length, taken_out_from}
-use Rattle.order.specs.Promises.{◌∈◌}
+use Rattle.congress.proofs.Places.{taken_out_length, taken_out_from}
 use Rattle.std.proofs.lemmas.Bool.{cases_eq, cases_lt}
 use Rattle.std.proofs.lemmas.List.{get_or_append_left, get_or_push, length_push}
 
@@ -12,7 +11,7 @@ abbrev pub Between : (Entry → Entry → Type 0) → List Entry → Type 0
 Between R q = (i j : ℕ) → i < length q → j < length q → (i ≡ j → ⊥) → R (entry_in q i) (entry_in q j)
 
 module _ (R : Entry → Entry → Type 0) (flip : (e f : Entry) → R e f → R f e) where
-  pub between_push : (q : List Entry) (x : Entry) → Between R q → ((e : Entry) → e ∈ q → R e x) → Between R (q ++ (x ∷ []))
+  pub between_push : (q : List Entry) (x : Entry) → Between R q → ((i : ℕ) → i < length q → R (entry_in q i) x) → Between R (q ++ (x ∷ []))
   between_push q x all new i j l m n =
       let size = length_push q x in
       elim (cases_lt i (length q)) [
@@ -20,11 +19,11 @@ module _ (R : Entry → Entry → Type 0) (flip : (e f : Entry) → R e f → R 
           | inl b ↦ subst (λ e. R e (entry_in (q ++ (x ∷ [])) j)) (sym (get_or_append_left q (x ∷ []) no_entry i a))
               (subst (λ f. R (entry_in q i) f) (sym (get_or_append_left q (x ∷ []) no_entry j b)) (all i j a b n))
           | inr b ↦ subst (λ e. R e (entry_in (q ++ (x ∷ [])) j)) (sym (get_or_append_left q (x ∷ []) no_entry i a))
-              (subst (λ f. R (entry_in q i) f) (sym (get_or_push q x no_entry j (omega arith))) (new (entry_in q i) (in_get q i no_entry a)))
+              (subst (λ f. R (entry_in q i) f) (sym (get_or_push q x no_entry j (omega arith))) (new i a))
         ]
         | inr a ↦ let c : j < length q = omega arith in
             subst (λ e. R e (entry_in (q ++ (x ∷ [])) j)) (sym (get_or_push q x no_entry i (omega arith)))
-            (subst (λ f. R x f) (sym (get_or_append_left q (x ∷ []) no_entry j c)) (flip (entry_in q j) x (new (entry_in q j) (in_get q j no_entry c))))
+            (subst (λ f. R x f) (sym (get_or_append_left q (x ∷ []) no_entry j c)) (flip (entry_in q j) x (new j c)))
       ]
 
   pub between_set : (q : List Entry) (p : ℕ) (x : Entry) → ((f : Entry) → R (entry_in q p) f → R x f) → Between R q → Between R (set q p x)

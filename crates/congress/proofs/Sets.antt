@@ -3,7 +3,8 @@ use Rattle.std.proofs.Common.{◌≡◌, ℕ, zero, suc, ◌/◌, ◌%◌, ◌^�
 use lib.Bits.{bit_and, bit_or, or_shr, or_step, and_shr, and_step}
 use lib.Count.{ones, ones_step}
 use Rattle.std.proofs.lemmas.Nat.{shr-shr}
-use Rattle.std.proofs.lemmas.Bool.{eqb-true, eq-eqb, cases_eq, and_parts, and_from, ltb-true, lt-ltb}
+use Rattle.std.proofs.lemmas.Nat.Bits.{bit_at_or, bit_at-lt, same_from_bits}
+use Rattle.std.proofs.lemmas.Bool.{eqb-true, eqb-false, eq-eqb, cases_eq, cases_Bool, and_parts, and_from, ltb-true, lt-ltb}
 use Rattle.records.specs.Halls.{bit, names}
 
 bit_is : (m k : ℕ) → bit m k ≡ true → m / 2 ^ k % 2 ≡ 1
@@ -117,6 +118,29 @@ pub disjoint_parts : (a b c d : ℕ) → bit_and (bit_or a b) (bit_or c d) ≡ 0
 disjoint_parts a b c d e =
     none_set (bit_and b d) (bit_and b d) (omega arith)
     (λ k h. no_common (bit_or a b) (bit_or c d) k e (bit_or_right a b k (bit_and_left b d k h)) (bit_or_right c d k (bit_and_right b d k h)))
+
+-- what lies in a set adds nothing to it
+or_within : (a m : ℕ) → ((k : ℕ) → bit a k ≡ true → bit m k ≡ true) → bit_or a m ≡ m
+or_within a m within = same_from_bits (bit_or a m) m (λ i.
+    let both = bit_at_or a m i in
+    let one = bit_at-lt a i in
+    let other = bit_at-lt m i in
+    elim (cases_Bool (bit a i)) [
+      | inl y ↦ let p = eqb-true (a / 2 ^ i % 2) 1 y in let q = eqb-true (m / 2 ^ i % 2) 1 (within i y) in omega arith
+      | inr n ↦ let p = eqb-false (a / 2 ^ i % 2) 1 n in omega arith
+    ])
+
+pub within_or : (a m k : ℕ) → bit_or a m ≡ m → bit a k ≡ true → bit m k ≡ true
+within_or a m k e h = subst (λ (w : ℕ). bit w k ≡ true) e (bit_or_left a m k h)
+
+pub or_pow : (m h : ℕ) → bit m h ≡ true → bit_or (2 ^ h) m ≡ m
+or_pow m h b = or_within (2 ^ h) m (λ k p. subst (λ (i : ℕ). bit m i ≡ true) (sym (bit_pow h k p)) b)
+
+pub or_pow_more : (votes m h : ℕ) → bit_or votes m ≡ m → bit m h ≡ true → bit_or (bit_or votes (2 ^ h)) m ≡ m
+or_pow_more votes m h e b = or_within (bit_or votes (2 ^ h)) m (λ k p. elim (bit_or_cases votes (2 ^ h) k p) [
+  | inl q ↦ within_or votes m k e q
+  | inr q ↦ subst (λ (i : ℕ). bit m i ≡ true) (sym (bit_pow h k q)) b
+])
 
 -- Halls named by a set.
 
