@@ -6,3 +6,4 @@ pub mod Places
 pub mod Between
 pub mod Apart
 pub mod Kept
+pub mod Taking

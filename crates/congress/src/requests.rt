@@ -44,3 +44,46 @@ impl Hall {
         sequence_of(transaction) <= self.taken[console_of(transaction) as usize]
     }
 }
+
+impl Congress {
+    // In locking mode: a key that is held is in the way of all, and then it goes by the class.
+    fn fate_locking<B: Book>(&self, book: &B, request: &Request) -> Fate
+        ensures { (post : List Message) → result ≡ fate_locking B.model (scene (with_post self.now post) (B.pages book.now)) request.now }
+    {
+        if self.holds_key(request.to, B::keys(request.operation)) {
+            return Fate::Conflicts;
+        }
+        match class_in(request) {
+            Class::Single => Fate::Runs,
+            Class::Independent => Fate::Enters,
+            Class::Coordinated => by_verdict(book.verdict(request.to, request.operation)),
+        }
+    }
+
+    // In timestamp mode: only a coordinated part needs the hall for itself.
+    fn fate_timestamp<B: Book>(&self, book: &B, request: &Request) -> Fate
+        ensures { (post : List Message) → result ≡ fate_timestamp B.model (scene (with_post self.now post) (B.pages book.now)) request.now (class_in request.now) }
+    {
+        match class_in(request) {
+            Class::Single | Class::Independent => Fate::Enters,
+            Class::Coordinated => {
+                if self.has_entries(request.to) {
+                    return Fate::Conflicts;
+                }
+                by_verdict(book.verdict(request.to, request.operation))
+            }
+        }
+    }
+
+    // What becomes of a request; its hall is known to exist.
+    fn fate<B: Book>(&self, book: &B, request: &Request) -> Fate
+        requires { request.now.to < 8 }
+        ensures { (post : List Message) → result ≡ fate B.model (scene (with_post self.now post) (B.pages book.now)) request.now }
+    {
+        if self.halls[request.to as usize].is_locking() {
+            self.fate_locking(book, request)
+        } else {
+            self.fate_timestamp(book, request)
+        }
+    }
+}
