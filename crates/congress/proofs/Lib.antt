@@ -1,4 +1,4 @@
--- the requests that are sent
+-- messages that are sent one after another
 pub mod Sent
 -- sets of halls, and what every congress keeps of its queue
 pub mod Sets
@@ -7,3 +7,5 @@ pub mod Between
 pub mod Apart
 pub mod Kept
 pub mod Taking
+-- votes that are counted
+pub mod Votes

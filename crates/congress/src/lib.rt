@@ -5,6 +5,7 @@ mod congress;
 mod entries;
 mod fates;
 mod outcomes;
+mod queue;
 mod refusals;
 mod replies;
 mod requests;
