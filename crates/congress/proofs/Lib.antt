@@ -6,6 +6,6 @@ pub mod Places
 pub mod Between
 pub mod Apart
 pub mod Kept
-pub mod Taking
+pub mod Takes
 -- votes that are counted
 pub mod Votes

@@ -20,7 +20,7 @@ sets_push l i (v ∷ vs) x =
     let e : suc i + length vs ≡ i + suc (length vs) = omega arith in
     sets_push (set l i v) (suc i) vs x ∙ ap (λ k. set (sets (set l i v) (suc i) vs) k x) e
 
-posting_push : (w : World) (ms : List Message) (m : Message) → posting (posting w ms) (m ∷ []) ≡ posting w (ms ++ (m ∷ []))
+pub posting_push : (w : World) (ms : List Message) (m : Message) → posting (posting w ms) (m ∷ []) ≡ posting w (ms ++ (m ∷ []))
 posting_push w ms m =
     let count : w.state.count + length ms + 1 ≡ w.state.count + length (ms ++ (m ∷ [])) = omega (arith, length_push ms m) in
     ap (λ n. world (with_count w.state n) (set (sets w.post w.state.count ms) (w.state.count + length ms) m)) count

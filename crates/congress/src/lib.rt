@@ -12,6 +12,7 @@ mod requests;
 mod sending;
 mod state;
 mod tables;
+mod taking;
 
 pub use fates::Fate;
 pub use outcomes::{Outcome, Report};

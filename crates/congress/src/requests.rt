@@ -13,7 +13,7 @@ use book::Book;
 use records::{Answer, Class, Request, console_of, sequence_of};
 
 // The class of a lawful request.
-fn class_in(request: &Request) -> Class
+pub(crate) fn class_in(request: &Request) -> Class
     ensures { result ≡ class_in request.now }
 {
     Class::try_from(request.class).unwrap_or_default()
@@ -31,7 +31,7 @@ fn by_verdict(answer: Answer) -> Fate
 }
 
 impl Hall {
-    fn is_locking(&self) -> bool
+    pub(crate) fn is_locking(&self) -> bool
         ensures { result ≡ locks self.now.mode }
     {
         self.mode == Mode::Locking

@@ -1,13 +1,20 @@
 -- A hall that takes a request keeps what every congress keeps.
-use Rattle.std.proofs.Common.{◌≡◌, ℕ, ◌^◌, ◌<◌, ◌≤◌, max, Bool, true, false, cond, not, ◌&&◌, eqb, ◌⊎◌, List, [], ◌∷◌, ◌++◌, length, get_or, set, refl, sym, ap, ◌∙◌, subst, inl, inr, arith, length-set, get_or-set_other, get_or-set_same}
+use Rattle.std.proofs.Common.{◌≡◌, ℕ, ◌-◌, ◌^◌, ◌<◌, ◌≤◌, max, Bool, true, false, cond, not, ◌&&◌, eqb, ◌⊎◌, List, [], ◌∷◌, ◌++◌, length, get_or, set, refl, sym, ap, ◌∙◌, subst, inl, inr, arith, length-set, get_or-set_other, get_or-set_same}
 use lib.Bits.{and_zero_r}
 use Rattle.std.specs.Prelude.{◌==◌, bit_and}
 use Rattle.book.specs.Model.{Model}
 use Rattle.congress.proofs.Apart.{apart_from}
+use Rattle.congress.proofs.Sent.{votes_count}
+use Rattle.congress.proofs.Sets.{names_parts}
+use Rattle.congress.specs.Sending.{votes_of, reply_of}
+use Rattle.std.specs.Int.Count.{ones}
+use Rattle.std.proofs.lemmas.List.{length_push}
+use Rattle.records.specs.Classes.{status_number}
+use Rattle.records.specs.declared.classes.Status.{Status}
 use Rattle.congress.proofs.Kept.{voted_new, suits_from, suits_taken, kept_at, kept_hall, kept_push}
 use Rattle.congress.specs.Kept.{voted, locks, coordinated, suits, apart, kept}
 use Rattle.congress.specs.Queue.{no_entry, entry_in, any_at, held_at, holds_at}
-use Rattle.congress.specs.Requests.{hall_of, class_in, verdict, by_verdict, fate_busy, fate_free, fate_locking, fate_timestamp, fate, recorded, mode_for, locked_for, entry_for, needs_entry, is_old}
+use Rattle.congress.specs.Requests.{hall_of, class_in, verdict, by_verdict, fate_busy, fate_free, fate_locking, fate_timestamp, fate, recorded, mode_for, locked_for, entry_for, falling, needs_entry, is_old}
 use Rattle.congress.specs.State.{Scene, no_hall}
 use Rattle.congress.specs.Tables.{with_last, with_mode}
 use Rattle.congress.specs.declared.fates.Fate.{Fate}
@@ -160,3 +167,21 @@ module _ (m : Model) (s : Scene) (r : Request) (enters : needs_entry (fate m s r
       (suits_from hall' (entry_for m (hall_of s r) r stamp) (coordinated_locks (hall_of s r).mode (class_in r))
       (let e = get_or-set_same (hall_of s r).taken (console r.transaction) (sequence r.transaction) 0 wide in omega arith)))
       (new_apart k new stamp)
+
+-- How many messages a request sends.
+
+pub some_named : (r : Request) → r.halls < 256 → names r.halls r.to ≡ true → 1 ≤ ones r.halls
+some_named r small named =
+    let p = names_parts r.halls r.to named in
+    omega (arith, votes_count r.transaction r.to r.halls 0 0 small p.0 p.1)
+
+pub entering_count : (r : Request) (stamp status : ℕ) → r.halls < 256 → names r.halls r.to ≡ true → length (votes_of r.transaction r.to r.halls stamp status) ≡ ones r.halls - 1
+entering_count r stamp status small named =
+    let p = names_parts r.halls r.to named in
+    omega (arith, votes_count r.transaction r.to r.halls stamp status small p.0 p.1)
+
+pub falling_count : (r : Request) (stamp : ℕ) (status : Status) (answer : Answer) → r.halls < 256 → names r.halls r.to ≡ true → length (falling r stamp status answer) ≡ ones r.halls
+falling_count r stamp status answer small named =
+    let p = names_parts r.halls r.to named in
+    omega (arith, votes_count r.transaction r.to r.halls stamp (status_number status) small p.0 p.1,
+    length_push (votes_of r.transaction r.to r.halls stamp (status_number status)) (reply_of r.transaction r.to stamp (status_number status) answer))

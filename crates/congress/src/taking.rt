@@ -1,0 +1,208 @@
+// Deliver, of a request: what its hall then holds, what it sends and what is told.
+ghost use Rattle.std.specs.Prelude.{◌≡◌, ℕ, ◌^◌, ◌<◌, ◌≤◌, true, false, List, [], ◌∷◌, ◌++◌, Ok, length, slice_set};
+ghost use Rattle.book.specs.Model.{Page};
+ghost use Rattle.congress.specs.Kept.{locks, kept};
+ghost use Rattle.congress.specs.Meaning.{state, with_post};
+ghost use Rattle.congress.specs.Requests.{hall_of, class_in, recorded, locked_for, entry_for, falling, sent, recording, taken_as, fate, needs_entry, full, is_old, request_step};
+ghost use Rattle.congress.specs.State.{Scene, scene, hall_at, with_hall, with_entries, lacks_room, sending};
+ghost use Rattle.congress.specs.Telling.{tell};
+ghost use Rattle.congress.specs.declared.fates.Fate.TheVariants.{Enters, Runs};
+ghost use Rattle.records.specs.Classes.{status_number};
+ghost use Rattle.records.specs.Halls.{names};
+ghost use Rattle.records.specs.declared.messages.Message.{Message};
+
+use super::fates::Fate;
+use super::outcomes::{Outcome, Report};
+use super::refusals::Refusal;
+use super::requests::class_in;
+use super::state::Congress;
+use super::tables::{Entry, Hall, Mode};
+use book::Book;
+use records::{
+    Answer, Class, Message, Request, Status, console_of, count_of, next_stamp, sequence_of,
+};
+
+impl Hall {
+    // It has recorded a transaction's sequence.
+    fn recorded(mut self, transaction: u32) -> Hall
+        ensures { result ≡ recorded self transaction }
+    {
+        self.taken[console_of(transaction) as usize] = sequence_of(transaction);
+        self
+    }
+
+    // A coordinated part that waits keeps it in locking mode.
+    fn locked_for(mut self, class: Class) -> Hall
+        ensures { result ≡ locked_for self class }
+    {
+        if class == Class::Coordinated {
+            self.mode = Mode::Locking;
+        }
+        self
+    }
+}
+
+// A part that waits, with the vote of its own hall; keys are held in locking mode alone.
+fn entry_for<B: Book>(hall: Hall, request: Request, stamp: u64) -> Entry
+    requires { request.to < 8 }
+    ensures { result ≡ entry_for B.model hall request stamp }
+{
+    let class = class_in(&request);
+    let keys = if hall.locked_for(class).is_locking() {
+        B::keys(request.operation)
+    } else {
+        0
+    };
+    Entry {
+        hall: request.to,
+        transaction: request.transaction,
+        class,
+        halls: request.halls,
+        votes: 1 << request.to,
+        stamp,
+        keys,
+        operation: request.operation,
+    }
+}
+
+impl Congress {
+    // One hall becomes another.
+    fn set_hall(&mut self, hall: u8, value: Hall)
+        requires exists { hall < 8 }
+        requires keeps { kept (slice_set (state self.old).halls hall value) (state self.old).entries ≡ true }
+        ensures { state self.new ≡ with_hall (state self.old) hall value }
+    {
+        self.halls[hall as usize] = value;
+    }
+
+    // An entry comes to the end of the queue, and its hall becomes another.
+    fn push(&mut self, hall: Hall, entry: Entry)
+        requires exists { entry.hall < 8 }
+        requires room { self.old.waiting < 64 }
+        requires keeps { kept (slice_set (state self.old).halls entry.hall hall) ((state self.old).entries ++ entry ∷ []) ≡ true }
+        ensures { state self.new ≡ with_entries (with_hall (state self.old) entry.hall hall) ((state self.old).entries ++ entry ∷ []) }
+    {
+        self.halls[entry.hall as usize] = hall;
+        self.queue[self.waiting] = entry;
+        self.waiting += 1;
+    }
+}
+
+// How many messages a request that becomes this sends.
+#[tactic(auto, using(crate::proofs::Takes::some_named, crate::proofs::Takes::entering_count, crate::proofs::Takes::falling_count))]
+fn needed<B: Book>(request: Request, fate: Fate) -> usize
+    requires { names request.halls request.to ≡ true }
+    ensures number { (s : Scene) (stamp : ℕ) → result ≡ length (sent B.model s request stamp fate) }
+    ensures few { result ≤ 8 }
+{
+    match fate {
+        Fate::Enters => count_of(request.halls) as usize - 1,
+        Fate::Runs => 1,
+        Fate::Conflicts => count_of(request.halls) as usize,
+        Fate::Aborts(_) => count_of(request.halls) as usize,
+    }
+}
+
+impl Congress {
+    // The part waits in the queue, and its hall votes commit.
+    #[tactic(auto, using(crate::proofs::Takes::kept_enters))]
+    fn enter<B: Book>(&mut self, book: &B, post: &mut [Message], request: Request, stamp: u64) -> Report
+        requires exists { request.to < 8 }
+        requires named { names request.halls request.to ≡ true }
+        requires new { is_old (hall_at (state self.old) request.to) request.transaction ≡ false }
+        requires enters { needs_entry (fate B.model (scene (with_post self.old post.old) (B.pages book.now)) request) ≡ true }
+        requires place { self.old.waiting < 64 }
+        requires room { lacks_room (with_post self.old post.old) (length (sent B.model (scene (with_post self.old post.old) (B.pages book.now)) request stamp Enters)) ≡ false }
+        ensures { (Ok result, scene (with_post self.new post.new) (B.pages book.now)) ≡ taken_as B.model (scene (with_post self.old post.old) (B.pages book.now)) request stamp Enters }
+    {
+        let hall = self.halls[request.to as usize];
+        let entry = entry_for::<B>(hall, request, stamp);
+        self.push(
+            hall.recorded(request.transaction).locked_for(entry.class),
+            entry,
+        );
+        self.send_votes(
+            post,
+            request.transaction,
+            request.to,
+            request.halls,
+            stamp,
+            u8::from(Status::Commit),
+        );
+        Report {
+            outcome: Outcome::Entered,
+            transaction: request.transaction,
+            hall: request.to,
+            stamp,
+            answer: Answer::default(),
+        }
+    }
+
+    // A single is done at once.
+    #[tactic(auto, using(crate::proofs::Takes::kept_records))]
+    fn run_at_once<B: Book>(&mut self, book: &mut B, post: &mut [Message], request: Request, stamp: u64) -> Report
+        requires exists { request.to < 8 }
+        requires new { is_old (hall_at (state self.old) request.to) request.transaction ≡ false }
+        requires room { lacks_room (with_post self.old post.old) 1 ≡ false }
+        ensures { (Ok result, scene (with_post self.new post.new) (B.pages book.new)) ≡ taken_as B.model (scene (with_post self.old post.old) (B.pages book.old)) request stamp Runs }
+    {
+        let hall = self.halls[request.to as usize];
+        let done = Hall {
+            last: hall.last.max(stamp),
+            ..hall.recorded(request.transaction)
+        };
+        self.set_hall(request.to, done);
+        let answer = book.run(request.to, request.operation);
+        self.send_reply(
+            post,
+            request.transaction,
+            request.to,
+            stamp,
+            u8::from(Status::Commit),
+            answer,
+        );
+        Report {
+            outcome: Outcome::DoneAtOnce,
+            transaction: request.transaction,
+            hall: request.to,
+            stamp,
+            answer,
+        }
+    }
+
+    // The part falls: its hall votes so, and replies with this answer.
+    #[tactic(auto, using(crate::proofs::Takes::kept_records, crate::proofs::Sent::posting_push))]
+    fn fall(&mut self, post: &mut [Message], request: Request, stamp: u64, status: Status, outcome: Outcome, answer: Answer) -> Report
+        requires exists { request.to < 8 }
+        requires new { is_old (hall_at (state self.old) request.to) request.transaction ≡ false }
+        requires room { lacks_room (with_post self.old post.old) (length (falling request stamp status answer)) ≡ false }
+        ensures { (pages : ℕ → Page) → (Ok result, scene (with_post self.new post.new) pages) ≡ tell (sending (recording (scene (with_post self.old post.old) pages) request) (falling request stamp status answer)) outcome request.transaction request.to stamp answer }
+    {
+        let hall = self.halls[request.to as usize];
+        self.set_hall(request.to, hall.recorded(request.transaction));
+        let number = u8::from(status);
+        self.send_votes(
+            post,
+            request.transaction,
+            request.to,
+            request.halls,
+            stamp,
+            number,
+        );
+        self.send_reply(
+            post,
+            request.transaction,
+            request.to,
+            stamp,
+            number,
+            answer,
+        );
+        Report {
+            outcome,
+            transaction: request.transaction,
+            hall: request.to,
+            stamp,
+            answer,
+        }
+    }
+}
