@@ -1,3 +1,4 @@
 pub mod Sent
 pub mod Modes
 pub mod Votes
+pub mod Places
