@@ -83,7 +83,9 @@ impl Congress {
     pub(crate) fn holds_key(&self, hall: u8, keys: u64) -> bool
         ensures { result ≡ held_at hall keys (state self.now).entries }
     {
-        self.entries().iter().any(|entry| entry.holds_at(hall, keys))
+        self.entries()
+            .iter()
+            .any(|entry| entry.holds_at(hall, keys))
     }
 
     // The place of a transaction's entry at a hall, or none.

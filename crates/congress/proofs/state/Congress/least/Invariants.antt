@@ -7,5 +7,5 @@ use Rattle.congress.specs.Work.{in_turn}
 abbrev pub invariant-loop-place : goal.invariant-loop-place
 invariant-loop-place l = record {
   value : l.found ≡ least_below (in_turn l.hall l.only_ready) l.entries l.place;
-  inside : IfSome l.found (λ i. i < length l.entries)
+  inside : IfSome l.found (λ i. i < length l.entries);
 }
