@@ -6,6 +6,8 @@ pub mod Places
 pub mod Between
 pub mod Apart
 pub mod Kept
+-- a hall that takes a request
 pub mod Takes
--- votes that are counted
+-- votes that are counted, and entries that are found
 pub mod Votes
+pub mod Finding

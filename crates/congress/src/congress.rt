@@ -15,7 +15,7 @@ use records::{
 };
 
 // At most so many places of a post are used.
-const POST_PLACES: usize = 1024;
+pub(crate) const POST_PLACES: usize = 1024;
 
 impl Console {
     // Its next transaction is open, at these halls; the answer is its sequence.
@@ -99,7 +99,7 @@ impl Congress {
         if old.sequence >= LAST_SEQUENCE {
             return Err(Refusal::UsedUp);
         }
-        if post.len().min(POST_PLACES) < self.count + count_of(halls) as usize {
+        if self.lacks_room(post, count_of(halls) as usize) {
             return Err(Refusal::NoRoom);
         }
         let sequence = self.consoles[console as usize].begin_next(halls);

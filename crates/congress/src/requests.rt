@@ -38,7 +38,7 @@ impl Hall {
     }
 
     // Whether it has taken this transaction's request, or a later one of the console.
-    fn is_old(&self, transaction: u32) -> bool
+    pub(crate) fn is_old(&self, transaction: u32) -> bool
         ensures { result ≡ is_old self.now transaction }
     {
         sequence_of(transaction) <= self.taken[console_of(transaction) as usize]
@@ -76,7 +76,7 @@ impl Congress {
     }
 
     // What becomes of a request; its hall is known to exist.
-    fn fate<B: Book>(&self, book: &B, request: &Request) -> Fate
+    pub(crate) fn fate<B: Book>(&self, book: &B, request: &Request) -> Fate
         requires { request.now.to < 8 }
         ensures { (post : List Message) → result ≡ fate B.model (scene (with_post self.now post) (B.pages book.now)) request.now }
     {

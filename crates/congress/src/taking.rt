@@ -3,7 +3,7 @@ ghost use Rattle.std.specs.Prelude.{◌≡◌, ℕ, ◌^◌, ◌<◌, ◌≤◌,
 ghost use Rattle.book.specs.Model.{Page};
 ghost use Rattle.congress.specs.Kept.{locks, kept};
 ghost use Rattle.congress.specs.Meaning.{state, with_post};
-ghost use Rattle.congress.specs.Requests.{hall_of, class_in, recorded, locked_for, entry_for, falling, sent, recording, taken_as, fate, needs_entry, full, is_old, request_step};
+ghost use Rattle.congress.specs.Requests.{hall_of, class_in, recorded, locked_for, entry_for, falling, sent, recording, taken_as, take_as, fate, needs_entry, full, is_old, request_step};
 ghost use Rattle.congress.specs.State.{Scene, scene, hall_at, with_hall, with_entries, lacks_room, sending};
 ghost use Rattle.congress.specs.Telling.{tell};
 ghost use Rattle.congress.specs.declared.fates.Fate.TheVariants.{Enters, Runs};
@@ -11,6 +11,7 @@ ghost use Rattle.records.specs.Classes.{status_number};
 ghost use Rattle.records.specs.Halls.{names};
 ghost use Rattle.records.specs.declared.messages.Message.{Message};
 
+use super::congress::POST_PLACES;
 use super::fates::Fate;
 use super::outcomes::{Outcome, Report};
 use super::refusals::Refusal;
@@ -204,5 +205,65 @@ impl Congress {
             stamp,
             answer,
         }
+    }
+}
+
+impl Congress {
+    // Whether the post lacks places for so many messages more.
+    pub(crate) fn lacks_room(&self, post: &[Message], messages: usize) -> bool
+        requires { messages ≤ 8 }
+        ensures { result ≡ lacks_room (with_post self.now post.now) messages }
+    {
+        post.len().min(POST_PLACES) < self.count + messages
+    }
+
+    // A request that a hall takes, with its stamp, becomes this.
+    fn take_as<B: Book>(&mut self, book: &mut B, post: &mut [Message], request: Request, stamp: u64) -> Result<Report, Refusal>
+        requires exists { request.to < 8 }
+        requires named { names request.halls request.to ≡ true }
+        requires new { is_old (hall_at (state self.old) request.to) request.transaction ≡ false }
+        ensures { (result, scene (with_post self.new post.new) (B.pages book.new)) ≡ take_as B.model (scene (with_post self.old post.old) (B.pages book.old)) request stamp (fate B.model (scene (with_post self.old post.old) (B.pages book.old)) request) }
+    {
+        let fate = self.fate(book, &request);
+        if matches!(fate, Fate::Enters) && self.is_full() {
+            return Err(Refusal::QueueFull);
+        }
+        if self.lacks_room(post, needed::<B>(request, fate)) {
+            return Err(Refusal::NoRoom);
+        }
+        Ok(match fate {
+            Fate::Enters => self.enter(book, post, request, stamp),
+            Fate::Runs => self.run_at_once(book, post, request, stamp),
+            Fate::Conflicts => self.fall(
+                post,
+                request,
+                stamp,
+                Status::Conflict,
+                Outcome::MetConflict,
+                Answer::default(),
+            ),
+            Fate::Aborts(answer) => self.fall(
+                post,
+                request,
+                stamp,
+                Status::Abort,
+                Outcome::Aborted,
+                answer,
+            ),
+        })
+    }
+
+    // A hall takes a request, unless it has taken it or a later one of the console; the hall is known to exist and be named.
+    pub(crate) fn take_request<B: Book>(&mut self, book: &mut B, post: &mut [Message], request: Request) -> Result<Report, Refusal>
+        requires exists { request.to < 8 }
+        requires named { names request.halls request.to ≡ true }
+        ensures { (result, scene (with_post self.new post.new) (B.pages book.new)) ≡ request_step B.model (scene (with_post self.old post.old) (B.pages book.old)) request }
+    {
+        let hall = self.halls[request.to as usize];
+        if hall.is_old(request.transaction) {
+            return Ok(Report::default());
+        }
+        let stamp = next_stamp(request.high, hall.last, hall.clock).ok_or(Refusal::TooLate)?;
+        self.take_as(book, post, request, stamp)
     }
 }
