@@ -9,5 +9,9 @@ pub mod Kept
 -- a hall that takes a request
 pub mod Takes
 -- votes that are counted, and entries that are found
-pub mod Votes
+pub mod Counting
 pub mod Finding
+-- entries in the memory of the queue
+pub mod Memory
+-- what a refused call leaves
+pub mod Refusing

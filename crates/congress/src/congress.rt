@@ -62,7 +62,7 @@ impl Congress {
     }
 
     // A post has places for as many messages as are counted.
-    fn check_post(&self, post: &[Message]) -> Result<(), Refusal>
+    pub(crate) fn check_post(&self, post: &[Message]) -> Result<(), Refusal>
         ensures { result ≡ cond (short (with_post self.now post.now)) (Err Refusal.ShortPost) (Ok tt) }
     {
         if post.len() < self.count {

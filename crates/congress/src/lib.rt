@@ -2,6 +2,7 @@
 #![tactic(auto)]
 
 mod congress;
+mod deliver;
 mod entries;
 mod fates;
 mod outcomes;
@@ -13,6 +14,8 @@ mod sending;
 mod state;
 mod tables;
 mod taking;
+mod votes;
+mod work;
 
 pub use fates::Fate;
 pub use outcomes::{Outcome, Report};

@@ -1,6 +1,7 @@
 // What Deliver and Work tell.
 ghost use Rattle.std.specs.Prelude.{◌≡◌};
 ghost use Rattle.congress.specs.Outcomes.{outcome_number};
+ghost use Rattle.congress.specs.Sending.{no_answer};
 
 use records::Answer;
 
@@ -48,4 +49,11 @@ pub struct Report {
     pub hall: u8,
     pub stamp: u64,
     pub answer: Answer,
+}
+
+// The answer that says nothing.
+pub(crate) fn no_answer() -> Answer
+    ensures { result ≡ no_answer }
+{
+    Answer::default()
 }

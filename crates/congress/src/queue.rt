@@ -10,7 +10,7 @@ use records::{count_of, first_from};
 
 impl Entry {
     // Whether every named hall has a vote in it.
-    #[tactic(auto, using(crate::proofs::Votes::all_voted))]
+    #[tactic(auto, using(crate::proofs::Counting::all_voted))]
     pub(crate) fn is_ready(&self) -> bool
         ensures { result ≡ ready self.now }
     {

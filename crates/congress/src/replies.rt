@@ -13,7 +13,7 @@ use super::state::Congress;
 use super::tables::Console;
 use records::{Reply, Status, console_of, count_of, has, sequence_of};
 
-fn is_commit(status: u8) -> bool
+pub(crate) fn is_commit(status: u8) -> bool
     ensures { result ≡ (status == status_number Commit) }
 {
     status == u8::from(Status::Commit)

@@ -1,5 +1,5 @@
 // Deliver, of a request: what its hall then holds, what it sends and what is told.
-ghost use Rattle.std.specs.Prelude.{◌≡◌, ℕ, ◌^◌, ◌<◌, ◌≤◌, true, false, List, [], ◌∷◌, ◌++◌, Ok, length, slice_set};
+ghost use Rattle.std.specs.Prelude.{◌≡◌, ℕ, ◌^◌, ◌<◌, ◌≤◌, true, false, cond, ◌&&◌, Err, List, [], ◌∷◌, ◌++◌, Ok, length, slice_set};
 ghost use Rattle.book.specs.Model.{Page};
 ghost use Rattle.congress.specs.Kept.{locks, kept};
 ghost use Rattle.congress.specs.Meaning.{state, with_post};
@@ -13,7 +13,7 @@ ghost use Rattle.records.specs.declared.messages.Message.{Message};
 
 use super::congress::POST_PLACES;
 use super::fates::Fate;
-use super::outcomes::{Outcome, Report};
+use super::outcomes::{Outcome, Report, no_answer};
 use super::refusals::Refusal;
 use super::requests::class_in;
 use super::state::Congress;
@@ -135,7 +135,7 @@ impl Congress {
             transaction: request.transaction,
             hall: request.to,
             stamp,
-            answer: Answer::default(),
+            answer: no_answer(),
         }
     }
 
@@ -217,21 +217,31 @@ impl Congress {
         post.len().min(POST_PLACES) < self.count + messages
     }
 
-    // A request that a hall takes, with its stamp, becomes this.
-    fn take_as<B: Book>(&mut self, book: &mut B, post: &mut [Message], request: Request, stamp: u64) -> Result<Report, Refusal>
-        requires exists { request.to < 8 }
-        requires named { names request.halls request.to ≡ true }
-        requires new { is_old (hall_at (state self.old) request.to) request.transaction ≡ false }
-        ensures { (result, scene (with_post self.new post.new) (B.pages book.new)) ≡ take_as B.model (scene (with_post self.old post.old) (B.pages book.old)) request stamp (fate B.model (scene (with_post self.old post.old) (B.pages book.old)) request) }
+    // Whether there is a place for the entry of a request that becomes this, and room for what it sends.
+    fn check_places<B: Book>(&self, book: &B, post: &[Message], request: Request, stamp: u64, fate: Fate) -> Result<(), Refusal>
+        requires { names request.halls request.to ≡ true }
+        ensures { result ≡ cond (needs_entry fate && full (scene (with_post self.now post.now) (B.pages book.now))) (Err Refusal.QueueFull) (cond (lacks_room (with_post self.now post.now) (length (sent B.model (scene (with_post self.now post.now) (B.pages book.now)) request stamp fate))) (Err Refusal.NoRoom) (Ok tt)) }
     {
-        let fate = self.fate(book, &request);
         if matches!(fate, Fate::Enters) && self.is_full() {
             return Err(Refusal::QueueFull);
         }
         if self.lacks_room(post, needed::<B>(request, fate)) {
             return Err(Refusal::NoRoom);
         }
-        Ok(match fate {
+        Ok(())
+    }
+
+    // A request that a hall takes becomes this; there is room for it.
+    fn settle_as<B: Book>(&mut self, book: &mut B, post: &mut [Message], request: Request, stamp: u64, found: Fate) -> Report
+        requires exists { request.to < 8 }
+        requires named { names request.halls request.to ≡ true }
+        requires new { is_old (hall_at (state self.old) request.to) request.transaction ≡ false }
+        requires fate { found ≡ fate B.model (scene (with_post self.old post.old) (B.pages book.old)) request }
+        requires place { (needs_entry found && full (scene (with_post self.old post.old) (B.pages book.old))) ≡ false }
+        requires room { lacks_room (with_post self.old post.old) (length (sent B.model (scene (with_post self.old post.old) (B.pages book.old)) request stamp found)) ≡ false }
+        ensures { (Ok result, scene (with_post self.new post.new) (B.pages book.new)) ≡ taken_as B.model (scene (with_post self.old post.old) (B.pages book.old)) request stamp found }
+    {
+        match found {
             Fate::Enters => self.enter(book, post, request, stamp),
             Fate::Runs => self.run_at_once(book, post, request, stamp),
             Fate::Conflicts => self.fall(
@@ -240,7 +250,7 @@ impl Congress {
                 stamp,
                 Status::Conflict,
                 Outcome::MetConflict,
-                Answer::default(),
+                no_answer(),
             ),
             Fate::Aborts(answer) => self.fall(
                 post,
@@ -250,7 +260,19 @@ impl Congress {
                 Outcome::Aborted,
                 answer,
             ),
-        })
+        }
+    }
+
+    // A hall takes a request with this stamp.
+    fn take_as<B: Book>(&mut self, book: &mut B, post: &mut [Message], request: Request, stamp: u64) -> Result<Report, Refusal>
+        requires exists { request.to < 8 }
+        requires named { names request.halls request.to ≡ true }
+        requires new { is_old (hall_at (state self.old) request.to) request.transaction ≡ false }
+        ensures { (result, scene (with_post self.new post.new) (B.pages book.new)) ≡ take_as B.model (scene (with_post self.old post.old) (B.pages book.old)) request stamp (fate B.model (scene (with_post self.old post.old) (B.pages book.old)) request) }
+    {
+        let fate = self.fate(book, &request);
+        self.check_places(book, post, request, stamp, fate)?;
+        Ok(self.settle_as(book, post, request, stamp, fate))
     }
 
     // A hall takes a request, unless it has taken it or a later one of the console; the hall is known to exist and be named.
