@@ -1,6 +1,9 @@
 // Reads the lines of a rehearsal's script: what each says, or which of its words is at fault.
 #![tactic(auto)]
 
+ghost use Rattle.std.specs.Prelude.{◌≡◌};
+ghost use Rattle.script.specs.Reading.{first_settings, settings_with, reading};
+
 mod expected;
 mod lines;
 mod operations;
@@ -32,6 +35,8 @@ pub struct Settings {
 const FIRST_TOKEN: u32 = 1;
 
 impl Default for Settings {
+    ghost is_default = { λ at. at ≡ first_settings };
+
     fn default() -> Settings {
         Settings {
             game: Game::Chess,
@@ -49,7 +54,9 @@ impl Default for Settings {
 
 impl Settings {
     // What the lines have said with one line more.
-    pub fn with(self, line: Line) -> Settings {
+    pub fn with(self, line: Line) -> Settings
+        ensures { result ≡ settings_with self line }
+    {
         match line {
             Line::Book(game) => Settings { game, ..self },
             Line::Chief(chief) => Settings { chief, ..self },
@@ -81,7 +88,9 @@ pub enum Line {
 
 // What a line says after those that came to these settings. A line without a word, or whose first word begins with `#`,
 // says nothing.
-pub fn read_line(line: &[u8], at: Settings) -> Result<Option<Line>, Misread> {
+pub fn read_line(line: &[u8], at: Settings) -> Result<Option<Line>, Misread>
+    ensures { result ≡ reading line.now at }
+{
     let mut words = Words::of(line);
     let first = words.next();
     match first.text {

@@ -1,12 +1,18 @@
 // An operation in words.
+ghost use Rattle.std.specs.Prelude.{◌≡◌, Ok};
+ghost use Rattle.script.specs.Words.{left};
+ghost use Rattle.script.specs.Operations.{signed as signed_by, about, appointment, seating, outcome, score, score_line, any, operation_after, operation};
+
 use crate::words::Words;
 use crate::{Expected, Misread, Settings};
 use chess::Outcome;
-use entries::{Bearer, Command, Count, close_kind, command_of, total_kind};
+use entries::{Bearer, Command, Count, Game, close_kind, command_of, total_kind};
 use records::Operation;
 
 // An operation of the bearer that asks nothing yet.
-fn signed(bearer: Bearer) -> Operation {
+fn signed(bearer: Bearer) -> Operation
+    ensures { result ≡ signed_by bearer }
+{
     Operation {
         grant: bearer.grant,
         token: bearer.token,
@@ -15,7 +21,9 @@ fn signed(bearer: Bearer) -> Operation {
 }
 
 // The next word as field a of an operation of this kind.
-fn about(words: &mut Words, kind: u8, signed: Operation) -> Result<Operation, Misread> {
+fn about(words: &mut Words, kind: u8, signed: Operation) -> Result<Operation, Misread>
+    ensures { left result words.new.place words.new.rest.now ≡ about kind signed words.old.place words.old.rest.now }
+{
     Ok(Operation {
         kind,
         a: words.field()?,
@@ -23,7 +31,9 @@ fn about(words: &mut Words, kind: u8, signed: Operation) -> Result<Operation, Mi
     })
 }
 
-fn appointment(words: &mut Words, signed: Operation) -> Result<Operation, Misread> {
+fn appointment(words: &mut Words, signed: Operation) -> Result<Operation, Misread>
+    ensures { left result words.new.place words.new.rest.now ≡ appointment signed words.old.place words.old.rest.now }
+{
     Ok(Operation {
         kind: roll::Kind::Appoint as u8,
         a: words.field()?,
@@ -32,7 +42,9 @@ fn appointment(words: &mut Words, signed: Operation) -> Result<Operation, Misrea
     })
 }
 
-fn seating(words: &mut Words, signed: Operation) -> Result<Operation, Misread> {
+fn seating(words: &mut Words, signed: Operation) -> Result<Operation, Misread>
+    ensures { left result words.new.place words.new.rest.now ≡ seating signed words.old.place words.old.rest.now }
+{
     Ok(Operation {
         kind: chess::Kind::Seat as u8,
         a: words.field()?,
@@ -42,7 +54,9 @@ fn seating(words: &mut Words, signed: Operation) -> Result<Operation, Misread> {
     })
 }
 
-fn outcome(words: &mut Words, signed: Operation) -> Result<Operation, Misread> {
+fn outcome(words: &mut Words, signed: Operation) -> Result<Operation, Misread>
+    ensures { left result words.new.place words.new.rest.now ≡ outcome signed words.old.place words.old.rest.now }
+{
     Ok(Operation {
         kind: chess::Kind::Enter as u8,
         a: words.field()?,
@@ -52,7 +66,9 @@ fn outcome(words: &mut Words, signed: Operation) -> Result<Operation, Misread> {
     })
 }
 
-fn score(words: &mut Words, signed: Operation) -> Result<Operation, Misread> {
+fn score(words: &mut Words, signed: Operation) -> Result<Operation, Misread>
+    ensures { left result words.new.place words.new.rest.now ≡ score signed words.old.place words.old.rest.now }
+{
     Ok(Operation {
         kind: bridge::Kind::Score as u8,
         a: words.field()?,
@@ -63,7 +79,9 @@ fn score(words: &mut Words, signed: Operation) -> Result<Operation, Misread> {
     })
 }
 
-fn score_line(words: &mut Words, signed: Operation) -> Result<Operation, Misread> {
+fn score_line(words: &mut Words, signed: Operation) -> Result<Operation, Misread>
+    ensures { left result words.new.place words.new.rest.now ≡ score_line signed words.old.place words.old.rest.now }
+{
     Ok(Operation {
         kind: bridge::Kind::Read as u8,
         a: words.field()?,
@@ -73,7 +91,9 @@ fn score_line(words: &mut Words, signed: Operation) -> Result<Operation, Misread
 }
 
 // All seven numbers are given.
-fn any(words: &mut Words) -> Result<Operation, Misread> {
+fn any(words: &mut Words) -> Result<Operation, Misread>
+    ensures { left result words.new.place words.new.rest.now ≡ any words.old.place words.old.rest.now }
+{
     Ok(Operation {
         kind: words.field()?,
         grant: words.field()?,
@@ -89,9 +109,11 @@ fn any(words: &mut Words) -> Result<Operation, Misread> {
 fn operation_after(
     command: Command,
     words: &mut Words,
-    at: &Settings,
-) -> Result<Operation, Misread> {
-    let signed = signed(at.bearer);
+    game: Game,
+    signed: Operation,
+) -> Result<Operation, Misread>
+    ensures { left result words.new.place words.new.rest.now ≡ operation_after game signed command words.old.place words.old.rest.now }
+{
     match command {
         Command::Appoint => appointment(words, signed),
         Command::Remove => about(words, roll::Kind::Remove as u8, signed),
@@ -101,17 +123,19 @@ fn operation_after(
         Command::Show => about(words, chess::Kind::Read as u8, signed),
         Command::Score => score(words, signed),
         Command::Line => score_line(words, signed),
-        Command::Close => about(words, close_kind(at.game), signed),
-        Command::Total => about(words, total_kind(at.game), signed),
+        Command::Close => about(words, close_kind(game), signed),
+        Command::Total => about(words, total_kind(game), signed),
         Command::Op => any(words),
     }
 }
 
 // The next words as an operation.
-pub fn operation(words: &mut Words, at: &Settings) -> Result<Operation, Misread> {
+pub fn operation(words: &mut Words, at: &Settings) -> Result<Operation, Misread>
+    ensures { left result words.new.place words.new.rest.now ≡ operation at.now words.old.place words.old.rest.now }
+{
     let word = words.next();
     match command_of(word.text) {
-        Some(command) => operation_after(command, words, at),
+        Some(command) => operation_after(command, words, at.game, signed(at.bearer)),
         None => Err(word.misread(Expected::Operation)),
     }
 }
