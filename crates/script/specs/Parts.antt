@@ -1,5 +1,5 @@
 -- The parts of an issue: the operations of its halls.
-use Rattle.std.specs.Prelude.{ℕ, zero, suc, cond, List, [], ◌∷◌, pos, Ok, Err, codes, Result, length, replicate, slice_set}
+use Rattle.std.specs.Prelude.{ℕ, zero, suc, cond, List, pos, Ok, Err, codes, Result, length, replicate, slice_set, ◌==◌}
 use Rattle.std.specs.Str.{bytes_eq}
 use Rattle.entries.specs.Words.{first_word, past_word}
 use Rattle.records.specs.declared.Operation.{Operation}
@@ -23,10 +23,8 @@ with_part at operations first place line =
 unfoldable pub parts : ℕ → Settings → List Operation → ℕ → List ℕ → Result (List Operation) Misread
 parts zero at operations place line = Ok operations
 parts (suc n) at operations place line =
-    elim (first_word line) [
-      | [] ↦ Ok operations
-      | b ∷ bs ↦ and_then (with_part at operations (b ∷ bs) place (past_word line)) (λ r. parts n at r.0 r.1 r.2)
-    ]
+    cond (length (first_word line) == 0) (Ok operations)
+    (and_then (with_part at operations (first_word line) place (past_word line)) (λ r. parts n at r.0 r.1 r.2))
 
 -- an operation of seven zeros
 abbrev pub no_operation : Operation

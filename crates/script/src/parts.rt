@@ -8,11 +8,7 @@ use crate::words::{Word, Words};
 use crate::{Expected, Misread, Settings};
 use records::{Below, Operation};
 
-fn with_one(
-    mut operations: [Operation; 8],
-    hall: Below<8>,
-    operation: Operation,
-) -> [Operation; 8]
+fn with_one(mut operations: [Operation; 8], hall: Below<8>, operation: Operation) -> [Operation; 8]
     ensures { result ≡ slice_set operations hall operation }
 {
     operations[hall.get()] = operation;

@@ -38,11 +38,14 @@ pub struct Words<'a> {
 fn class_named(word: &[u8]) -> Option<Class>
     ensures { result ≡ class_named word.now }
 {
-    match word {
-        b"single" => Some(Class::Single),
-        b"independent" => Some(Class::Independent),
-        b"coordinated" => Some(Class::Coordinated),
-        _ => None,
+    if word == b"single".as_slice() {
+        Some(Class::Single)
+    } else if word == b"independent".as_slice() {
+        Some(Class::Independent)
+    } else if word == b"coordinated".as_slice() {
+        Some(Class::Coordinated)
+    } else {
+        None
     }
 }
 
