@@ -107,7 +107,13 @@ fn needed<B: Book>(request: Request, fate: Fate) -> usize
 impl Congress {
     // The part waits in the queue, and its hall votes commit.
     #[tactic(auto, using(crate::proofs::Takes::kept_enters))]
-    fn enter<B: Book>(&mut self, book: &B, post: &mut [Message], request: Request, stamp: u64) -> Report
+    fn enter<B: Book>(
+        &mut self,
+        book: &B,
+        post: &mut [Message],
+        request: Request,
+        stamp: u64,
+    ) -> Report
         requires exists { request.to < 8 }
         requires named { names request.halls request.to ≡ true }
         requires new { is_old (hall_at (state self.old) request.to) request.transaction ≡ false }
@@ -141,7 +147,13 @@ impl Congress {
 
     // A single is done at once.
     #[tactic(auto, using(crate::proofs::Takes::kept_records))]
-    fn run_at_once<B: Book>(&mut self, book: &mut B, post: &mut [Message], request: Request, stamp: u64) -> Report
+    fn run_at_once<B: Book>(
+        &mut self,
+        book: &mut B,
+        post: &mut [Message],
+        request: Request,
+        stamp: u64,
+    ) -> Report
         requires exists { request.to < 8 }
         requires new { is_old (hall_at (state self.old) request.to) request.transaction ≡ false }
         requires room { lacks_room (with_post self.old post.old) 1 ≡ false }
@@ -173,7 +185,15 @@ impl Congress {
 
     // The part falls: its hall votes so, and replies with this answer.
     #[tactic(auto, using(crate::proofs::Takes::kept_records, crate::proofs::Sent::posting_push))]
-    fn fall(&mut self, post: &mut [Message], request: Request, stamp: u64, status: Status, outcome: Outcome, answer: Answer) -> Report
+    fn fall(
+        &mut self,
+        post: &mut [Message],
+        request: Request,
+        stamp: u64,
+        status: Status,
+        outcome: Outcome,
+        answer: Answer,
+    ) -> Report
         requires exists { request.to < 8 }
         requires new { is_old (hall_at (state self.old) request.to) request.transaction ≡ false }
         requires room { lacks_room (with_post self.old post.old) (length (falling request stamp status answer)) ≡ false }
@@ -190,14 +210,7 @@ impl Congress {
             stamp,
             number,
         );
-        self.send_reply(
-            post,
-            request.transaction,
-            request.to,
-            stamp,
-            number,
-            answer,
-        );
+        self.send_reply(post, request.transaction, request.to, stamp, number, answer);
         Report {
             outcome,
             transaction: request.transaction,
@@ -218,7 +231,14 @@ impl Congress {
     }
 
     // Whether there is a place for the entry of a request that becomes this, and room for what it sends.
-    fn check_places<B: Book>(&self, book: &B, post: &[Message], request: Request, stamp: u64, fate: Fate) -> Result<(), Refusal>
+    fn check_places<B: Book>(
+        &self,
+        book: &B,
+        post: &[Message],
+        request: Request,
+        stamp: u64,
+        fate: Fate,
+    ) -> Result<(), Refusal>
         requires { names request.halls request.to ≡ true }
         ensures { result ≡ cond (needs_entry fate && full (scene (with_post self.now post.now) (B.pages book.now))) (Err Refusal.QueueFull) (cond (lacks_room (with_post self.now post.now) (length (sent B.model (scene (with_post self.now post.now) (B.pages book.now)) request stamp fate))) (Err Refusal.NoRoom) (Ok tt)) }
     {
@@ -232,7 +252,14 @@ impl Congress {
     }
 
     // A request that a hall takes becomes this; there is room for it.
-    fn settle_as<B: Book>(&mut self, book: &mut B, post: &mut [Message], request: Request, stamp: u64, found: Fate) -> Report
+    fn settle_as<B: Book>(
+        &mut self,
+        book: &mut B,
+        post: &mut [Message],
+        request: Request,
+        stamp: u64,
+        found: Fate,
+    ) -> Report
         requires exists { request.to < 8 }
         requires named { names request.halls request.to ≡ true }
         requires new { is_old (hall_at (state self.old) request.to) request.transaction ≡ false }
@@ -264,7 +291,13 @@ impl Congress {
     }
 
     // A hall takes a request with this stamp.
-    fn take_as<B: Book>(&mut self, book: &mut B, post: &mut [Message], request: Request, stamp: u64) -> Result<Report, Refusal>
+    fn take_as<B: Book>(
+        &mut self,
+        book: &mut B,
+        post: &mut [Message],
+        request: Request,
+        stamp: u64,
+    ) -> Result<Report, Refusal>
         requires exists { request.to < 8 }
         requires named { names request.halls request.to ≡ true }
         requires new { is_old (hall_at (state self.old) request.to) request.transaction ≡ false }
@@ -276,7 +309,12 @@ impl Congress {
     }
 
     // A hall takes a request, unless it has taken it or a later one of the console; the hall is known to exist and be named.
-    pub(crate) fn take_request<B: Book>(&mut self, book: &mut B, post: &mut [Message], request: Request) -> Result<Report, Refusal>
+    pub(crate) fn take_request<B: Book>(
+        &mut self,
+        book: &mut B,
+        post: &mut [Message],
+        request: Request,
+    ) -> Result<Report, Refusal>
         requires exists { request.to < 8 }
         requires named { names request.halls request.to ≡ true }
         ensures { (result, scene (with_post self.new post.new) (B.pages book.new)) ≡ request_step B.model (scene (with_post self.old post.old) (B.pages book.old)) request }

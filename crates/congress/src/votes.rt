@@ -166,11 +166,7 @@ impl Congress {
     }
 
     // A vote of one hall comes to another; both are known to exist.
-    pub(crate) fn take_vote(
-        &mut self,
-        post: &mut [Message],
-        vote: Vote,
-    ) -> Result<Report, Refusal>
+    pub(crate) fn take_vote(&mut self, post: &mut [Message], vote: Vote) -> Result<Report, Refusal>
         requires exists { vote.to < 8 }
         requires from { vote.from < 8 }
         ensures { (pages : ℕ → Page) → (result, scene (with_post self.new post.new) pages) ≡ vote_step (scene (with_post self.old post.old) pages) vote }

@@ -1,4 +1,4 @@
-use Rattle.std.proofs.Common.{◌≡◌, sym, ap, ◌∙◌}
+use Rattle.std.proofs.Common.{sym, ap, ◌∙◌}
 use Rattle.congress.proofs.state.Congress.settle_as.Goals as goal
 use Rattle.congress.specs.Meaning.{with_post}
 use Rattle.congress.specs.Requests.{falling, recording, taken_as}
