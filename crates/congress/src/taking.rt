@@ -2,9 +2,9 @@
 ghost use Rattle.std.specs.Prelude.{◌≡◌, ℕ, ◌^◌, ◌<◌, ◌≤◌, true, false, cond, ◌&&◌, Err, List, [], ◌∷◌, ◌++◌, Ok, length, slice_set};
 ghost use Rattle.book.specs.Model.{Page};
 ghost use Rattle.congress.specs.Kept.{locks, kept};
-ghost use Rattle.congress.specs.Meaning.{state, with_post};
+ghost use Rattle.congress.specs.Meaning.{state, with_post, scene_of};
 ghost use Rattle.congress.specs.Requests.{hall_of, class_in, recorded, locked_for, entry_for, falling, sent, recording, taken_as, take_as, fate, needs_entry, full, is_old, request_step};
-ghost use Rattle.congress.specs.State.{Scene, scene, hall_at, with_hall, with_entries, lacks_room, sending};
+ghost use Rattle.congress.specs.State.{Scene, hall_at, with_hall, with_entries, lacks_room, sending};
 ghost use Rattle.congress.specs.Telling.{tell};
 ghost use Rattle.congress.specs.declared.fates.Fate.TheVariants.{Enters, Runs};
 ghost use Rattle.records.specs.Classes.{status_number};
@@ -117,10 +117,10 @@ impl Congress {
         requires exists { request.to < 8 }
         requires named { names request.halls request.to ≡ true }
         requires new { is_old (hall_at (state self.old) request.to) request.transaction ≡ false }
-        requires enters { needs_entry (fate B.model (scene (with_post self.old post.old) (B.pages book.now)) request) ≡ true }
+        requires enters { needs_entry (fate B.model (scene_of self.old post.old (B.pages book.now)) request) ≡ true }
         requires place { self.old.waiting < 64 }
-        requires room { lacks_room (with_post self.old post.old) (length (sent B.model (scene (with_post self.old post.old) (B.pages book.now)) request stamp Enters)) ≡ false }
-        ensures { (Ok result, scene (with_post self.new post.new) (B.pages book.now)) ≡ taken_as B.model (scene (with_post self.old post.old) (B.pages book.now)) request stamp Enters }
+        requires room { lacks_room (with_post self.old post.old) (length (sent B.model (scene_of self.old post.old (B.pages book.now)) request stamp Enters)) ≡ false }
+        ensures { (Ok result, scene_of self.new post.new (B.pages book.now)) ≡ taken_as B.model (scene_of self.old post.old (B.pages book.now)) request stamp Enters }
     {
         let hall = self.halls[request.to as usize];
         let entry = entry_for::<B>(hall, request, stamp);
@@ -157,7 +157,7 @@ impl Congress {
         requires exists { request.to < 8 }
         requires new { is_old (hall_at (state self.old) request.to) request.transaction ≡ false }
         requires room { lacks_room (with_post self.old post.old) 1 ≡ false }
-        ensures { (Ok result, scene (with_post self.new post.new) (B.pages book.new)) ≡ taken_as B.model (scene (with_post self.old post.old) (B.pages book.old)) request stamp Runs }
+        ensures { (Ok result, scene_of self.new post.new (B.pages book.new)) ≡ taken_as B.model (scene_of self.old post.old (B.pages book.old)) request stamp Runs }
     {
         let hall = self.halls[request.to as usize];
         let done = Hall {
@@ -197,7 +197,7 @@ impl Congress {
         requires exists { request.to < 8 }
         requires new { is_old (hall_at (state self.old) request.to) request.transaction ≡ false }
         requires room { lacks_room (with_post self.old post.old) (length (falling request stamp status answer)) ≡ false }
-        ensures { (pages : ℕ → Page) → (Ok result, scene (with_post self.new post.new) pages) ≡ tell (sending (recording (scene (with_post self.old post.old) pages) request) (falling request stamp status answer)) outcome request.transaction request.to stamp answer }
+        ensures { (pages : ℕ → Page) → (Ok result, scene_of self.new post.new pages) ≡ tell (sending (recording (scene_of self.old post.old pages) request) (falling request stamp status answer)) outcome request.transaction request.to stamp answer }
     {
         let hall = self.halls[request.to as usize];
         self.set_hall(request.to, hall.recorded(request.transaction));
@@ -240,7 +240,7 @@ impl Congress {
         fate: Fate,
     ) -> Result<(), Refusal>
         requires { names request.halls request.to ≡ true }
-        ensures { result ≡ cond (needs_entry fate && full (scene (with_post self.now post.now) (B.pages book.now))) (Err Refusal.QueueFull) (cond (lacks_room (with_post self.now post.now) (length (sent B.model (scene (with_post self.now post.now) (B.pages book.now)) request stamp fate))) (Err Refusal.NoRoom) (Ok tt)) }
+        ensures { result ≡ cond (needs_entry fate && full (scene_of self.now post.now (B.pages book.now))) (Err Refusal.QueueFull) (cond (lacks_room (with_post self.now post.now) (length (sent B.model (scene_of self.now post.now (B.pages book.now)) request stamp fate))) (Err Refusal.NoRoom) (Ok tt)) }
     {
         if matches!(fate, Fate::Enters) && self.is_full() {
             return Err(Refusal::QueueFull);
@@ -252,7 +252,7 @@ impl Congress {
     }
 
     // A request that a hall takes becomes this; there is room for it.
-    fn settle_as<B: Book>(
+    fn carry_out<B: Book>(
         &mut self,
         book: &mut B,
         post: &mut [Message],
@@ -263,10 +263,10 @@ impl Congress {
         requires exists { request.to < 8 }
         requires named { names request.halls request.to ≡ true }
         requires new { is_old (hall_at (state self.old) request.to) request.transaction ≡ false }
-        requires fate { found ≡ fate B.model (scene (with_post self.old post.old) (B.pages book.old)) request }
-        requires place { (needs_entry found && full (scene (with_post self.old post.old) (B.pages book.old))) ≡ false }
-        requires room { lacks_room (with_post self.old post.old) (length (sent B.model (scene (with_post self.old post.old) (B.pages book.old)) request stamp found)) ≡ false }
-        ensures { (Ok result, scene (with_post self.new post.new) (B.pages book.new)) ≡ taken_as B.model (scene (with_post self.old post.old) (B.pages book.old)) request stamp found }
+        requires fate { found ≡ fate B.model (scene_of self.old post.old (B.pages book.old)) request }
+        requires place { (needs_entry found && full (scene_of self.old post.old (B.pages book.old))) ≡ false }
+        requires room { lacks_room (with_post self.old post.old) (length (sent B.model (scene_of self.old post.old (B.pages book.old)) request stamp found)) ≡ false }
+        ensures { (Ok result, scene_of self.new post.new (B.pages book.new)) ≡ taken_as B.model (scene_of self.old post.old (B.pages book.old)) request stamp found }
     {
         match found {
             Fate::Enters => self.enter(book, post, request, stamp),
@@ -301,11 +301,11 @@ impl Congress {
         requires exists { request.to < 8 }
         requires named { names request.halls request.to ≡ true }
         requires new { is_old (hall_at (state self.old) request.to) request.transaction ≡ false }
-        ensures { (result, scene (with_post self.new post.new) (B.pages book.new)) ≡ take_as B.model (scene (with_post self.old post.old) (B.pages book.old)) request stamp (fate B.model (scene (with_post self.old post.old) (B.pages book.old)) request) }
+        ensures { (result, scene_of self.new post.new (B.pages book.new)) ≡ take_as B.model (scene_of self.old post.old (B.pages book.old)) request stamp (fate B.model (scene_of self.old post.old (B.pages book.old)) request) }
     {
         let fate = self.fate(book, &request);
         self.check_places(book, post, request, stamp, fate)?;
-        Ok(self.settle_as(book, post, request, stamp, fate))
+        Ok(self.carry_out(book, post, request, stamp, fate))
     }
 
     // A hall takes a request, unless it has taken it or a later one of the console; the hall is known to exist and be named.
@@ -317,7 +317,7 @@ impl Congress {
     ) -> Result<Report, Refusal>
         requires exists { request.to < 8 }
         requires named { names request.halls request.to ≡ true }
-        ensures { (result, scene (with_post self.new post.new) (B.pages book.new)) ≡ request_step B.model (scene (with_post self.old post.old) (B.pages book.old)) request }
+        ensures { (result, scene_of self.new post.new (B.pages book.new)) ≡ request_step B.model (scene_of self.old post.old (B.pages book.old)) request }
     {
         let hall = self.halls[request.to as usize];
         if hall.is_old(request.transaction) {

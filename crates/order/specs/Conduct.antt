@@ -1,21 +1,14 @@
 -- What is promised of the calls that a program makes.
 use Rattle.std.specs.Prelude.{◌≡◌, ℕ, ◌≤◌, List, [], ◌∷◌, ◌++◌, length, take, Result}
-use Rattle.book.specs.Model.{Page, Model}
-use Rattle.congress.specs.Meaning.{with_post}
-use Rattle.congress.specs.State.{Scene, scene}
+use Rattle.book.specs.Model.{Model}
+use Rattle.congress.specs.State.{Scene}
 use Rattle.congress.specs.declared.refusals.Refusal.{Refusal}
-use Rattle.congress.specs.declared.state.Congress.{Congress}
 use Rattle.order.specs.Promises.{OneOrder, AllOrNone, KeepsWell}
 use Rattle.order.specs.Removal.{RemovalHolds}
 use Rattle.order.specs.Runs.{step, Past, beginning, one_call, run}
 use Rattle.order.specs.declared.calls.Call.{Call}
 use Rattle.order.specs.declared.calls.Said.{Said}
-use Rattle.records.specs.declared.messages.Message.{Message}
 use Rattle.roll.specs.Over.{IsRoll}
-
--- a congress with its post and the pages of its book
-abbrev pub scene_of : Congress → List Message → (ℕ → Page) → Scene
-scene_of congress post pages = scene (with_post congress post) pages
 
 -- what each call of a list tells
 abbrev pub told : Model → List Call → Past → List (Result Said Refusal)

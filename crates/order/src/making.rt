@@ -1,6 +1,7 @@
 // Makes calls at a congress, and states what is promised of them.
 ghost use Rattle.std.specs.Prelude.{◌≡◌, length, nat_le, is_ok, OnOk, OnErr};
-ghost use Rattle.order.specs.Conduct.{scene_of, told, Promised, BeginsWithOpen, AfterEach, LeadsOn};
+ghost use Rattle.congress.specs.Meaning.{scene_of};
+ghost use Rattle.order.specs.Conduct.{told, Promised, BeginsWithOpen, AfterEach, LeadsOn};
 ghost use Rattle.order.specs.Runs.{beginning, run, step};
 ghost use Rattle.std.proofs.lemmas.List.Edits.{sets};
 

@@ -3,7 +3,7 @@ use Rattle.congress.specs.State.{Scene}
 use Rattle.congress.specs.declared.refusals.Refusal.{Refusal}
 use Rattle.order.proofs.Conducted.{each_promised, goes_on, tells_on}
 use Rattle.order.proofs.making.conduct.Goals as goal
-use Rattle.order.specs.Conduct.{scene_of}
+use Rattle.congress.specs.Meaning.{scene_of}
 use Rattle.order.specs.Runs.{beginning}
 use Rattle.order.specs.declared.calls.Said.{Said}
 

@@ -1,6 +1,7 @@
 use Rattle.std.proofs.Common.{◌≡◌, take}
 use Rattle.order.proofs.making.conduct.Given as goal
-use Rattle.order.specs.Conduct.{scene_of, told}
+use Rattle.congress.specs.Meaning.{scene_of}
+use Rattle.order.specs.Conduct.{told}
 use Rattle.order.specs.Runs.{beginning, run}
 use Rattle.std.proofs.lemmas.List.Edits.{sets}
 

@@ -3,7 +3,8 @@ use Rattle.congress.specs.State.{Scene}
 use Rattle.congress.specs.declared.refusals.Refusal.{Refusal}
 use Rattle.order.proofs.Conducted.{leads_on}
 use Rattle.order.proofs.making.make.Goals as goal
-use Rattle.order.specs.Conduct.{scene_of, LeadsOn}
+use Rattle.congress.specs.Meaning.{scene_of}
+use Rattle.order.specs.Conduct.{LeadsOn}
 use Rattle.order.specs.declared.calls.Said.{Said}
 
 pub returns-clause-promises : goal.returns-clause-promises
