@@ -19,15 +19,6 @@ same_sheet s t r b u =
     ∙ ap (λ x. record { round = t.round; cells = x; totals = s.totals }) b
     ∙ ap (λ x. record { round = t.round; cells = t.cells; totals = x }) u
 
--- a row of these ends before the next begins
-row_inside : (width k n : ℕ) → k < n → width * k + width ≤ width * n
-row_inside width k zero l = absurd (omega arith)
-row_inside width k (suc n) l =
-    elim (cases_eq k n) [
-      | inl e ↦ omega (arith, mul-suc width n, ap (λ i. width * i) e)
-      | inr ne ↦ omega (arith, mul-suc width n, row_inside width k n (omega arith))
-    ]
-
 module _ {C A : Type 0} {cells totals layer : ℕ} (g : Game C A cells totals) (f : Fits layer g) (s : Sheet C cells totals) where
   abbrev numbers : ℕ → List ℤ
   numbers a = g.numbers (cell g s a)
