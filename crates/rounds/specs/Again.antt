@@ -1,7 +1,7 @@
 -- A sheet that is written on a page is read again from it.
-use Rattle.std.specs.Prelude.{◌≡◌, ℕ, zero, suc, ◌+◌, ◌-◌, ◌*◌, ◌<◌, ◌≤◌, List, ◌++◌, length, ℤ, pos, slice_index, refl}
-use Rattle.std.proofs.Common.{inl, inr, sym, ap, ◌∙◌, one-add, mul-suc, arith}
-use Rattle.book.proofs.Below.{get_or-table, table_all, length-rows, get_or-rows}
+use Rattle.std.specs.Prelude.{◌≡◌, ℕ, ◌+◌, ◌-◌, ◌*◌, ◌<◌, List, ◌++◌, length, ℤ, pos, slice_index, refl}
+use Rattle.std.proofs.Common.{sym, ap, ◌∙◌, one-add, arith}
+use Rattle.book.proofs.Below.{row_inside, get_or-table, table_all, length-rows, get_or-rows}
 use Rattle.book.specs.Below.{table, rows}
 use Rattle.book.specs.Numbers.{natural, at}
 use Rattle.rounds.specs.Fits.{Fits}
@@ -10,7 +10,6 @@ use Rattle.rounds.specs.Kept.{Sized}
 use Rattle.rounds.specs.Pages.{write, read}
 use Rattle.rounds.specs.Sheets.{cell}
 use Rattle.rounds.specs.declared.sheets.Sheet.{Sheet}
-use Rattle.std.proofs.lemmas.Bool.{cases_eq}
 use Rattle.std.proofs.lemmas.List.{get_or_append_left, get_or-append_right}
 
 pub same_sheet : {C : Type 0} {cells totals : ℕ} (s t : Sheet C cells totals) → s.round ≡ t.round → s.cells ≡ t.cells → s.totals ≡ t.totals → s ≡ t
