@@ -1,8 +1,9 @@
 -- Laws of sums, tests and lists over the numbers below n: the start of a loop over them, its step, and what it comes to.
-use Rattle.std.proofs.Common.{◌≡◌, ℕ, zero, suc, ◌+◌, ◌-◌, ◌*◌, ◌<◌, ◌≤◌, Bool, true, false, cond, ◌&&◌, ◌||◌, eqb, List, length, get_or, sym, refl, ap, ◌∙◌, ap₂, inl, inr, mul-suc, mul-add, add-one, arith, length-append}
+use Rattle.std.proofs.Common.{◌≡◌, ℕ, zero, suc, ◌+◌, ◌-◌, ◌*◌, ◌<◌, ◌≤◌, Bool, true, false, cond, ◌&&◌, ◌||◌, eqb, List, [], ◌∷◌, ◌++◌, length, get_or, slice_get, Some, sym, refl, ap, ◌∙◌, ap₂, inl, inr, mul-suc, mul-add, add-one, arith, length-append}
 use Rattle.book.specs.Below.{sum_below, some_below, all_below, table, rows}
 use Rattle.std.proofs.lemmas.List.FromFn.{length-map-range_with_len, get_or-map-range_with_len, fill_by_all}
 use Rattle.std.proofs.lemmas.List.{get_or_append_left, get_or-append_right}
+use Rattle.std.proofs.lemmas.Option.{slice_get-get_or, slice_get_cases}
 use Rattle.std.proofs.lemmas.Bool.{cases_eq, cond-true, cond-false, eq-eqb, ne_eqb, and_left, and_right, or_left, or_right}
 
 pub sum_none : (f : ℕ → ℕ) → sum_below 0 f ≡ 0
@@ -112,6 +113,15 @@ not_all_at t (suc n) k h e =
       | inr ne ↦ and_left (all_below n t) (t n) (not_all_at t n k (omega arith) e)
     ]
 
+-- a row of this width ends before the next begins
+pub row_inside : (width k n : ℕ) → k < n → width * k + width ≤ width * n
+row_inside width k zero l = absurd (omega arith)
+row_inside width k (suc n) l =
+    elim (cases_eq k n) [
+      | inl e ↦ omega (arith, mul-suc width n, ap (λ i. width * i) e)
+      | inr ne ↦ omega (arith, mul-suc width n, row_inside width k n (omega arith))
+    ]
+
 module _ {X : Type 0} where
   pub length-table : (n : ℕ) (f : ℕ → X) → length (table n f) ≡ n
   unfolding table
@@ -143,10 +153,27 @@ module _ {X : Type 0} where
               get_or-append_right (rows n f) (f n) (width * n) (width * k + j) d (length-rows n) (omega (arith, ap (λ i. width * i) e))
               ∙ ap (λ i. get_or (f n) i d) here ∙ ap (λ i. get_or (f i) j d) (omega arith)
           | inr ne ↦
-              get_or_append_left (rows n f) (f n) d (width * k + j) (omega (arith, length-rows n, inside k n (omega arith))) ∙ get_or-rows n k j d (omega arith) g
+              get_or_append_left (rows n f) (f n) d (width * k + j) (omega (arith, length-rows n, row_inside width k n (omega arith))) ∙ get_or-rows n k j d (omega arith) g
         ]
-      where
-        inside : (k n : ℕ) → k < n → width * k + width ≤ width * n
-        inside k zero l = absurd (omega arith)
-        inside k (suc n) l =
-            elim (cases_eq k n) [ inl e ↦ omega (arith, mul-suc width n, ap (λ i. width * i) e) | inr ne ↦ omega (arith, mul-suc width n, inside k n (omega arith)) ]
+
+    -- an element of the rows, by its row and its place there
+    pub slice_get-rows : (n i k j : ℕ) → i ≡ width * k + j → k < n → j < width → slice_get (rows n f) i ≡ slice_get (f k) j
+    slice_get-rows n i k j e h g =
+        elim (slice_get_cases (f k) j).1 [
+          | inl here ↦
+              let x = here.0 in
+              let inside : i < length (rows n f) = omega (arith, length-rows n, row_inside width k n h) in
+              slice_get-get_or (rows n f) i x inside ∙ ap Some (ap (λ m. get_or (rows n f) m x) e ∙ get_or-rows n k j x h g) ∙ sym (slice_get-get_or (f k) j x here.1)
+          | inr past ↦ absurd (omega (arith, past.0, wide k))
+        ]
+
+  -- an element of two lists, by its place in the one or the other
+  pub slice_get-append_left : (xs ys : List X) (i : ℕ) → i < length xs → slice_get (xs ++ ys) i ≡ slice_get xs i
+  slice_get-append_left [] ys i h = absurd (omega arith)
+  slice_get-append_left (x ∷ xs) ys zero h = refl
+  slice_get-append_left (x ∷ xs) ys (suc i) h = slice_get-append_left xs ys i (omega arith)
+
+  pub slice_get-append_right : (xs ys : List X) (n i : ℕ) → n ≡ length xs → n ≤ i → slice_get (xs ++ ys) i ≡ slice_get ys (i - n)
+  slice_get-append_right [] ys n i e h = ap (slice_get ys) (omega arith)
+  slice_get-append_right (x ∷ xs) ys n zero e h = absurd (omega arith)
+  slice_get-append_right (x ∷ xs) ys n (suc i) e h = slice_get-append_right xs ys (n - 1) i (omega arith) (omega arith) ∙ ap (slice_get ys) (omega arith)

@@ -1,5 +1,6 @@
 -- What a book means: what its operations answer and make of one page, and the law that this obeys.
-use Rattle.std.specs.Prelude.{◌≡◌, ℕ, false, cond, ◌&&◌, List, ℤ, ◌==◌, bit_and, nat_lt}
+use Rattle.std.specs.Prelude.{◌≡◌, ℕ, false, cond, ◌&&◌, List, ℤ, None, Option, ◌==◌, bit_and, nat_lt}
+use Rattle.std.specs.List.{slice_get}
 use Rattle.records.specs.Answers.{Shaped, fault_at, well_done}
 use Rattle.records.specs.declared.Answer.{Answer}
 use Rattle.records.specs.declared.Operation.{Operation}
@@ -46,3 +47,7 @@ told m pages hall o = cond (nat_lt hall 8) (m.answer (pages hall) o) (no_hall m 
 -- its pages after that: no other hall's is altered
 abbrev pub turned : Model → (ℕ → Page) → ℕ → Operation → (ℕ → Page)
 turned m pages hall o h = cond (nat_lt hall 8 && h == hall) (m.next (pages h) o) (pages h)
+
+-- the number at a place of a hall's page, if the hall is one of the eight and its page goes so far
+abbrev pub number_at : (ℕ → Page) → ℕ → ℕ → Option ℤ
+number_at pages hall place = cond (nat_lt hall 8) (slice_get (pages hall) place) None

@@ -1,5 +1,6 @@
 // A book made of eight pages, one for each hall: what a book does at one hall makes the book of them all.
 ghost use Rattle.std.specs.Prelude.{◌≡◌, ℕ};
+ghost use Rattle.std.specs.List.{slice_get};
 ghost use Rattle.book.specs.Model.{Page, Model, Lawful};
 ghost use Rattle.records.specs.Answers.{fault_at};
 ghost use Rattle.book.specs.Halls.{page_at, all_own};
@@ -36,6 +37,10 @@ pub trait Hall {
     fn run(&mut self, op: Operation) -> Answer
         ensures answer { result ≡ model.answer (page self.old) op }
         ensures page { page self.new ≡ model.next (page self.old) op };
+
+    // The number at a place of its page, if the page goes so far.
+    fn number(&self, place: usize) -> Option<i64>
+        ensures { result ≡ slice_get (page self.now) place };
 
     ghost layered: { LAYER ≡ model.layer };
 
@@ -95,5 +100,10 @@ impl<H: Hall> Book for Halls<H> {
             None => refuse_hall(H::LAYER, hall),
             Some(place) => self.halls[place.get()].run(op),
         }
+    }
+
+    fn number(&self, hall: u8, place: usize) -> Option<i64> {
+        let hall = Below::<HALLS>::new(usize::from(hall))?;
+        self.halls[hall.get()].number(place)
     }
 }

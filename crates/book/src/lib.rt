@@ -3,7 +3,7 @@
 
 ghost use Rattle.std.specs.Prelude.{◌≡◌, ℕ, true, ◌==◌, bit_and};
 ghost use Rattle.book.specs.Apart.{Pass, apart};
-ghost use Rattle.book.specs.Model.{Page, Model, Lawful, told, turned};
+ghost use Rattle.book.specs.Model.{Page, Model, Lawful, told, turned, number_at};
 
 mod halls;
 
@@ -35,6 +35,10 @@ pub trait Book {
     fn run(&mut self, hall: u8, op: Operation) -> Answer
         ensures answer { result ≡ told model (pages self.old) hall op }
         ensures pages { pages self.new ≡ turned model (pages self.old) hall op };
+
+    // The number at a place of a hall's page, if the hall is one of the eight and its page goes so far.
+    fn number(&self, hall: u8, place: usize) -> Option<i64>
+        ensures { result ≡ number_at (pages self.now) hall place };
 
     ghost owned: { (b : Self) (h : ℕ) → model.own (pages b h) };
 

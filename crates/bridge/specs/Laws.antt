@@ -88,7 +88,7 @@ covers o =
     (λ kind. subst (λ m. Held m 32) (sym (total_keys o kind)) (held_one 32))
 
 -- A deal that is written on a page is read again from it.
-line_wide : (x : Line) → length (line_numbers x) ≡ 3
+pub line_wide : (x : Line) → length (line_numbers x) ≡ 3
 line_wide None = refl
 line_wide (Some x) = refl
 
@@ -96,7 +96,7 @@ line_again : (x : Line) → read_line (line_numbers x) 0 ≡ x
 line_again None = refl
 line_again (Some x) = refl
 
-deal_wide : (d : Deal) → length (deal_numbers d) ≡ 24
+pub deal_wide : (d : Deal) → length (deal_numbers d) ≡ 24
 deal_wide d = length-rows 3 (λ b. line_numbers (line d b)) (λ b. line_wide (line d b)) 8
 
 module _ (p : Page) (i : ℕ) (d : Deal) (same : (j : ℕ) → j < 24 → at p (i + j) ≡ at (deal_numbers d) j) where

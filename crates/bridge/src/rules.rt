@@ -1,8 +1,8 @@
 // What each operation answers and makes of a deal: the book of bridge as a game of rounds.
 ghost use Rattle.std.proofs.Common.{rules};
-ghost use Rattle.std.specs.Prelude.{◌≡◌};
+ghost use Rattle.std.specs.Prelude.{◌≡◌, refl};
 ghost use Rattle.bridge.specs.Laws.{bridge_fits};
-ghost use Rattle.bridge.specs.Page.{bridge};
+ghost use Rattle.bridge.specs.Page.{line_numbers, bridge};
 ghost use Rattle.bridge.specs.Rules.{score_says, read_says};
 
 use super::asking::{DealAsk, asked, keys};
@@ -14,6 +14,12 @@ use rounds::{Ask, Cell, Fault, Kept};
 // The layer of this book's answers.
 pub const LAYER: u8 = 2;
 
+// How many numbers a line has on a page.
+const LINE_WIDTH: usize = 3;
+
+// How many a deal has.
+const WIDTH: usize = LINE_WIDTH * PAIRS;
+
 // The book of bridge: a sheet of deals for each of eight halls.
 pub type Bridge = Halls<Kept<Deal, DEALS, TOTALS>>;
 
@@ -21,6 +27,16 @@ fn say_to_read(line: Option<Entry>) -> Result<i32, Fault>
     ensures { result ≡ read_says line }
 {
     line.map(|entry| entry.score).ok_or(Fault::Nothing)
+}
+
+// The numbers of a line on a page.
+fn line_numbers(line: Option<Entry>) -> [i64; LINE_WIDTH]
+    ensures { result ≡ line_numbers line }
+{
+    match line {
+        Some(entry) => [1, entry.pair.get() as i64, i64::from(entry.score)],
+        None => [0; LINE_WIDTH],
+    }
 }
 
 impl Deal {
@@ -42,6 +58,14 @@ impl Cell<DEALS, TOTALS> for Deal {
     const LAYER: u8 = LAYER;
 
     ghost LAYER = { 2 };
+
+    const WIDTH: usize = WIDTH;
+
+    ghost WIDTH = { 24 };
+
+    ghost wide = { refl };
+
+    ghost some = { Prim.search rules };
 
     ghost fits = { bridge_fits };
 
@@ -87,5 +111,15 @@ impl Cell<DEALS, TOTALS> for Deal {
 
     fn gain(&self, total: usize) -> u32 {
         self.points_for(total)
+    }
+
+    #[tactic(auto, using(crate::proofs::Numbers::number_of_line, crate::proofs::Numbers::no_number))]
+    fn number(&self, j: usize) -> Option<i64> {
+        if j >= WIDTH {
+            return None;
+        }
+        line_numbers(self.line(j / LINE_WIDTH))
+            .get(j % LINE_WIDTH)
+            .copied()
     }
 }

@@ -1,8 +1,8 @@
 // What each operation answers and makes of a board.
 ghost use Rattle.std.proofs.Common.{rules};
-ghost use Rattle.std.specs.Prelude.{◌≡◌, ◌≤◌};
+ghost use Rattle.std.specs.Prelude.{◌≡◌, ◌≤◌, refl};
 ghost use Rattle.chess.specs.Laws.{chess_fits};
-ghost use Rattle.chess.specs.Page.{chess};
+ghost use Rattle.chess.specs.Page.{game_numbers, chess};
 ghost use Rattle.chess.specs.Rules.{result_number, seat_says, enter_says, read_says, white_points, black_points};
 
 use super::asking::{BoardAsk, asked, keys};
@@ -13,6 +13,9 @@ use rounds::{Ask, Cell, Fault, Kept};
 
 // The layer of this book's answers.
 pub const LAYER: u8 = 1;
+
+// How many numbers a board has on a page.
+const WIDTH: usize = 4;
 
 // The book of chess: a sheet of boards for each of eight halls.
 pub type Chess = Halls<Kept<Board, BOARDS, PLAYERS>>;
@@ -39,6 +42,21 @@ fn points_of(ended: Option<Outcome>) -> (u32, u32)
 }
 
 impl Board {
+    // Its numbers on a page.
+    fn numbers(self) -> [i64; WIDTH]
+        ensures { result ≡ game_numbers self.game }
+    {
+        match self.game {
+            Some(game) => [
+                1,
+                i64::from(game.white),
+                i64::from(game.black),
+                i64::from(number_of(game.result)),
+            ],
+            None => [0; WIDTH],
+        }
+    }
+
     fn say_to_seat(self) -> Result<i32, Fault>
         ensures { result ≡ seat_says self.game }
     {
@@ -75,6 +93,14 @@ impl Cell<BOARDS, PLAYERS> for Board {
     const LAYER: u8 = LAYER;
 
     ghost LAYER = { 1 };
+
+    const WIDTH: usize = WIDTH;
+
+    ghost WIDTH = { 4 };
+
+    ghost wide = { refl };
+
+    ghost some = { Prim.search rules };
 
     ghost fits = { chess_fits };
 
@@ -139,5 +165,9 @@ impl Cell<BOARDS, PLAYERS> for Board {
             points += black;
         }
         points
+    }
+
+    fn number(&self, j: usize) -> Option<i64> {
+        self.numbers().get(j).copied()
     }
 }

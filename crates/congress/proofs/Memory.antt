@@ -1,5 +1,5 @@
 -- The entries that wait, in the memory of the queue.
-use Rattle.std.proofs.Common.{◌≡◌, ℕ, ◌-◌, ◌^◌, ◌<◌, ◌≤◌, max, not, eqb, true, false, List, length, get_or, set, take, refl, sym, ap, ◌∙◌, subst, inr, arith}
+use Rattle.std.proofs.Common.{◌≡◌, ℕ, ◌-◌, ◌^◌, ◌<◌, ◌≤◌, max, not, eqb, true, false, List, length, get_or, set, take, sym, ap, ◌∙◌, subst, inr, arith}
 use Rattle.std.specs.Prelude.{bit_or}
 use Rattle.congress.proofs.Kept.{voted_more, kept_at, kept_hall, kept_votes, kept_without}
 use Rattle.congress.specs.Kept.{kept}

@@ -1,20 +1,20 @@
 -- A refused call leaves all as it was.
-use Rattle.std.proofs.Common.{◌≡◌, ℕ, Bool, true, false, cond, ◌&&◌, ◌||◌, eqb, length, get_or, Some, None, Option, Result, refl}
+use Rattle.std.proofs.Common.{ℕ, ◌&&◌, eqb, length, Some, None, Option, Result, refl}
 use Rattle.book.specs.Model.{Model}
 use Rattle.congress.specs.Calls.{Untouched}
 use Rattle.congress.specs.Deliver.{message_step}
 use Rattle.congress.specs.Queue.{entry_in, place_at}
 use Rattle.congress.specs.Replies.{console_of, awaits, reply_step}
-use Rattle.congress.specs.Requests.{hall_of, fate, sent, needs_entry, full, take_as, taken_as, stamp_for, take, is_old, request_step}
+use Rattle.congress.specs.Requests.{hall_of, fate, sent, needs_entry, full, taken_as, stamp_for, take, is_old, request_step}
 use Rattle.congress.specs.State.{Scene, lacks_room}
 use Rattle.congress.specs.Telling.{refuse, pass_over}
 use Rattle.congress.specs.Votes.{counts, counted, count_vote, remove_entry, vote_on, vote_at, vote_step}
-use Rattle.congress.specs.Work.{may_run, work_entry, work_on, work_step}
+use Rattle.congress.specs.Work.{work_on}
 use Rattle.congress.specs.declared.fates.Fate.{Fate}
 use Rattle.congress.specs.declared.fates.Fate.TheVariants.{Enters, Runs, Conflicts, Aborts}
 use Rattle.congress.specs.declared.outcomes.Report.{Report}
 use Rattle.congress.specs.declared.refusals.Refusal.{Refusal}
-use Rattle.congress.specs.declared.refusals.Refusal.TheVariants.{NotThere, NoRoom, QueueFull, ShortPost}
+use Rattle.congress.specs.declared.refusals.Refusal.TheVariants.{NoRoom, QueueFull}
 use Rattle.congress.specs.declared.tables.Entry.{Entry}
 use Rattle.records.specs.Messages.{lawful}
 use Rattle.records.specs.declared.messages.Message.{Message}

@@ -1,5 +1,5 @@
 -- Messages that are sent to the halls one after another, and the places they take.
-use Rattle.std.proofs.Common.{◌≡◌, ℕ, zero, suc, ◌+◌, ◌-◌, ◌/◌, ◌^◌, ◌<◌, ◌≤◌, Bool, true, false, cond, not, ◌&&◌, eqb, min, List, [], ◌∷◌, ◌++◌, length, get_or, set, sym, refl, ap, ◌∙◌, inl, inr, append-nil, add-zero, add-one, arith}
+use Rattle.std.proofs.Common.{◌≡◌, ℕ, zero, suc, ◌+◌, ◌-◌, ◌/◌, ◌^◌, ◌<◌, ◌≤◌, Bool, true, false, not, ◌&&◌, eqb, min, List, [], ◌∷◌, ◌++◌, length, get_or, set, sym, refl, ap, ◌∙◌, inl, inr, append-nil, add-zero, add-one, arith}
 use Rattle.std.specs.Int.Count.{ones, ones_step}
 use Rattle.std.proofs.Math.Seq.{length-sets}
 use Rattle.std.proofs.lemmas.List.Edits.{sets}
@@ -12,9 +12,9 @@ use Rattle.records.specs.declared.messages.Message.TheVariants.{Request as reque
 use Rattle.records.specs.declared.messages.Request.{Request}
 use Rattle.std.proofs.lemmas.Nat.{shr-shr}
 use Rattle.std.proofs.lemmas.List.{length_push}
-use Rattle.std.proofs.lemmas.Bool.{lt-ltb, eqb-true, eqb-false, eq-eqb, cases_Bool, cases_eq, cases_lt, cond-true, cond-false, and_from, and_parts}
+use Rattle.std.proofs.lemmas.Bool.{lt-ltb, eqb-true, eqb-false, eq-eqb, cases_Bool, cond-true, cond-false}
 
-sets_push : {X : Type 0} (l : List X) (i : ℕ) (vs : List X) (x : X) → sets l i (vs ++ (x ∷ [])) ≡ set (sets l i vs) (i + length vs) x
+pub sets_push : {X : Type 0} (l : List X) (i : ℕ) (vs : List X) (x : X) → sets l i (vs ++ (x ∷ [])) ≡ set (sets l i vs) (i + length vs) x
 sets_push l i [] x = ap (λ k. set l k x) (sym (add-zero i))
 sets_push l i (v ∷ vs) x =
     let e : suc i + length vs ≡ i + suc (length vs) = omega arith in
@@ -121,17 +121,37 @@ module _ (halls own : ℕ) (message other : ℕ → Message) (own_is : bit halls
   before_own : (n : ℕ) → n ≤ own → length (to_each (is_other halls own) other n) ≡ length (to_each (bit halls) message n)
   before_own zero l = refl
   before_own (suc n) l =
-      omega (arith, before_own n (omega arith), same_step n (λ e. omega arith), length_step (bit halls) message n, length_step (is_other halls own) other n,
-      ap (λ k. length (to_each (bit halls) message k)) (add-one n), ap (λ k. length (to_each (is_other halls own) other k)) (add-one n))
+      omega (
+        arith,
+        before_own n (omega arith),
+        same_step n (λ e. omega arith),
+        length_step (bit halls) message n,
+        length_step (is_other halls own) other n,
+        ap (λ k. length (to_each (bit halls) message k)) (add-one n),
+        ap (λ k. length (to_each (is_other halls own) other k)) (add-one n),
+      )
 
   after_own : (k : ℕ) → length (to_each (is_other halls own) other (own + 1 + k)) + 1 ≡ length (to_each (bit halls) message (own + 1 + k))
   after_own zero =
-      omega (arith, before_own own (omega arith), length_in (bit halls) message own own_is, ap length (passes (is_other halls own) other own (not_itself halls own)),
-      ap (λ k. length (to_each (bit halls) message k)) (add-zero (own + 1)), ap (λ k. length (to_each (is_other halls own) other k)) (add-zero (own + 1)))
+      omega (
+        arith,
+        before_own own (omega arith),
+        length_in (bit halls) message own own_is,
+        ap length (passes (is_other halls own) other own (not_itself halls own)),
+        ap (λ k. length (to_each (bit halls) message k)) (add-zero (own + 1)),
+        ap (λ k. length (to_each (is_other halls own) other k)) (add-zero (own + 1)),
+      )
   after_own (suc k) =
       let e : own + 1 + suc k ≡ own + 1 + k + 1 = omega arith in
-      omega (arith, after_own k, same_step (own + 1 + k) (λ q. omega arith), length_step (bit halls) message (own + 1 + k), length_step (is_other halls own) other (own + 1 + k),
-      ap (λ j. length (to_each (bit halls) message j)) e, ap (λ j. length (to_each (is_other halls own) other j)) e)
+      omega (
+        arith,
+        after_own k,
+        same_step (own + 1 + k) (λ q. omega arith),
+        length_step (bit halls) message (own + 1 + k),
+        length_step (is_other halls own) other (own + 1 + k),
+        ap (λ j. length (to_each (bit halls) message j)) e,
+        ap (λ j. length (to_each (is_other halls own) other j)) e,
+      )
 
 pub requests_is : (d : Request) (os : List Operation) → requests_below d os 8 ≡ requests d os
 unfolding requests
@@ -144,9 +164,14 @@ votes_are t own halls stamp status = refl
 pub votes_count : (t own halls stamp status : ℕ) → halls < 256 → own < 8 → bit halls own ≡ true → length (votes_of t own halls stamp status) + 1 ≡ ones halls
 votes_count t own halls stamp status l inside b =
     let e : own + 1 + (8 - (own + 1)) ≡ 8 = omega arith in
-    omega (arith, after_own halls own (vote_to t own stamp status) (vote_to t own stamp status) b (8 - (own + 1)), all_sent halls (vote_to t own stamp status) l,
-    ap (λ k. length (to_each (is_other halls own) (vote_to t own stamp status) k)) e, ap (λ k. length (to_each (bit halls) (vote_to t own stamp status) k)) e,
-    ap length (votes_are t own halls stamp status))
+    omega (
+      arith,
+      after_own halls own (vote_to t own stamp status) (vote_to t own stamp status) b (8 - (own + 1)),
+      all_sent halls (vote_to t own stamp status) l,
+      ap (λ k. length (to_each (is_other halls own) (vote_to t own stamp status) k)) e,
+      ap (λ k. length (to_each (bit halls) (vote_to t own stamp status) k)) e,
+      ap length (votes_are t own halls stamp status),
+    )
 
 pub requests_count : (d : Request) (os : List Operation) → d.halls < 256 → length (requests d os) ≡ ones d.halls
 requests_count d os l = ap length (sym (requests_is d os)) ∙ all_sent d.halls (λ h. request (to_hall d h (get_or os h no_operation))) l

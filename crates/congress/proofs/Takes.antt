@@ -1,5 +1,5 @@
 -- A hall that takes a request keeps what every congress keeps.
-use Rattle.std.proofs.Common.{◌≡◌, ℕ, ◌-◌, ◌^◌, ◌<◌, ◌≤◌, max, Bool, true, false, cond, not, ◌&&◌, eqb, ◌⊎◌, List, [], ◌∷◌, ◌++◌, length, get_or, set, refl, sym, ap, ◌∙◌, subst, inl, inr, arith, length-set, get_or-set_other, get_or-set_same}
+use Rattle.std.proofs.Common.{◌≡◌, ℕ, ◌-◌, ◌<◌, ◌≤◌, true, false, cond, not, ◌⊎◌, List, [], ◌∷◌, ◌++◌, length, get_or, set, refl, sym, ap, ◌∙◌, subst, inl, inr, arith, get_or-set_other, get_or-set_same}
 use lib.Bits.{and_zero_r}
 use Rattle.std.specs.Prelude.{◌==◌, bit_and}
 use Rattle.book.specs.Model.{Model}
@@ -12,13 +12,13 @@ use Rattle.std.proofs.lemmas.List.{length_push}
 use Rattle.records.specs.Classes.{status_number}
 use Rattle.records.specs.declared.classes.Status.{Status}
 use Rattle.congress.proofs.Kept.{voted_new, suits_from, suits_taken, kept_at, kept_hall, kept_push}
-use Rattle.congress.specs.Kept.{voted, locks, coordinated, suits, apart, kept}
+use Rattle.congress.specs.Kept.{locks, coordinated, suits, apart, kept}
 use Rattle.congress.specs.Queue.{no_entry, entry_in, any_at, held_at, holds_at}
 use Rattle.congress.specs.Requests.{hall_of, class_in, verdict, by_verdict, fate_busy, fate_free, fate_locking, fate_timestamp, fate, recorded, mode_for, locked_for, entry_for, falling, needs_entry, is_old}
 use Rattle.congress.specs.State.{Scene, no_hall}
-use Rattle.congress.specs.Tables.{with_last, with_mode}
+use Rattle.congress.specs.Tables.{with_last}
 use Rattle.congress.specs.declared.fates.Fate.{Fate}
-use Rattle.congress.specs.declared.fates.Fate.TheVariants.{Enters, Runs, Conflicts, Aborts}
+use Rattle.congress.specs.declared.fates.Fate.TheVariants.{Conflicts}
 use Rattle.congress.specs.declared.tables.Entry.{Entry}
 use Rattle.congress.specs.declared.tables.Hall.{Hall}
 use Rattle.congress.specs.declared.tables.Mode.{Mode}
@@ -28,7 +28,7 @@ use Rattle.records.specs.declared.Answer.{Answer}
 use Rattle.records.specs.declared.classes.Class.{Class}
 use Rattle.records.specs.declared.classes.Class.TheVariants.{Single, Independent, Coordinated}
 use Rattle.records.specs.declared.messages.Request.{Request}
-use Rattle.std.proofs.lemmas.Bool.{cond_both, cond-true, cond-false, not_from_false, cases_eq, cases_lt, cases_Bool, eqb-true, eqb-false, eq-eqb, leb-false, and_from, both_ways, not-false, true≢false}
+use Rattle.std.proofs.lemmas.Bool.{cond_both, cond-true, cond-false, not_from_false, cases_eq, cases_lt, cases_Bool, eqb-true, eq-eqb, leb-false, and_from, both_ways, true≢false}
 use Rattle.std.proofs.lemmas.List.{set_past}
 use Rattle.std.proofs.lemmas.List.Folds.{list_any_at}
 
@@ -183,5 +183,8 @@ entering_count r stamp status small named =
 pub falling_count : (r : Request) (stamp : ℕ) (status : Status) (answer : Answer) → r.halls < 256 → names r.halls r.to ≡ true → length (falling r stamp status answer) ≡ ones r.halls
 falling_count r stamp status answer small named =
     let p = names_parts r.halls r.to named in
-    omega (arith, votes_count r.transaction r.to r.halls stamp (status_number status) small p.0 p.1,
-    length_push (votes_of r.transaction r.to r.halls stamp (status_number status)) (reply_of r.transaction r.to stamp (status_number status) answer))
+    omega (
+      arith,
+      votes_count r.transaction r.to r.halls stamp (status_number status) small p.0 p.1,
+      length_push (votes_of r.transaction r.to r.halls stamp (status_number status)) (reply_of r.transaction r.to stamp (status_number status) answer),
+    )

@@ -2,8 +2,7 @@
 ghost use Rattle.std.specs.Prelude.{◌≡◌};
 ghost use Rattle.congress.specs.Calls.{Untouched};
 ghost use Rattle.congress.specs.Deliver.{message_step, deliver_step};
-ghost use Rattle.congress.specs.Meaning.{with_post};
-ghost use Rattle.congress.specs.State.{scene};
+ghost use Rattle.congress.specs.Meaning.{scene_of};
 
 use super::outcomes::Report;
 use super::refusals::Refusal;
@@ -19,7 +18,7 @@ impl Congress {
         post: &mut [Message],
         message: Message,
     ) -> Result<Report, Refusal>
-        ensures { (result, scene (with_post self.new post.new) (B.pages book.new)) ≡ message_step B.model (scene (with_post self.old post.old) (B.pages book.old)) message }
+        ensures { (result, scene_of self.new post.new (B.pages book.new)) ≡ message_step B.model (scene_of self.old post.old (B.pages book.old)) message }
     {
         if !is_lawful(self.opened, message) {
             return Ok(Report::default());
@@ -38,8 +37,8 @@ impl Congress {
         post: &mut [Message],
         place: usize,
     ) -> Result<Report, Refusal>
-        ensures step { (result, scene (with_post self.new post.new) (B.pages book.new)) ≡ deliver_step B.model (scene (with_post self.old post.old) (B.pages book.old)) place }
-        ensures refused { Untouched result (scene (with_post self.old post.old) (B.pages book.old)) (scene (with_post self.new post.new) (B.pages book.new)) }
+        ensures step { (result, scene_of self.new post.new (B.pages book.new)) ≡ deliver_step B.model (scene_of self.old post.old (B.pages book.old)) place }
+        ensures refused { Untouched result (scene_of self.old post.old (B.pages book.old)) (scene_of self.new post.new (B.pages book.new)) }
     {
         self.check_post(post)?;
         if place >= self.count {

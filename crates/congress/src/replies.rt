@@ -1,9 +1,8 @@
 // Deliver, of a reply.
 ghost use Rattle.std.specs.Prelude.{◌≡◌, ℕ, ◌<◌, List, Ok, ◌==◌};
 ghost use Rattle.book.specs.Model.{Page};
-ghost use Rattle.congress.specs.Meaning.{with_post};
+ghost use Rattle.congress.specs.Meaning.{scene_of};
 ghost use Rattle.congress.specs.Replies.{awaits, complete, replies, outcome_of, still_busy, answered, reply_step};
-ghost use Rattle.congress.specs.State.{scene};
 ghost use Rattle.records.specs.Classes.{status_number};
 ghost use Rattle.records.specs.declared.classes.Status.TheVariants.{Commit};
 ghost use Rattle.records.specs.declared.messages.Message.{Message};
@@ -75,7 +74,7 @@ impl Congress {
     // A console takes a reply that it waits for; it and its hall are known to exist.
     pub(crate) fn take_reply(&mut self, reply: Reply) -> Report
         requires { reply.from < 8 }
-        ensures { (post : List Message) (pages : ℕ → Page) → (Ok result, scene (with_post self.new post) pages) ≡ reply_step (scene (with_post self.old post) pages) reply }
+        ensures { (post : List Message) (pages : ℕ → Page) → (Ok result, scene_of self.new post pages) ≡ reply_step (scene_of self.old post pages) reply }
     {
         let console = &mut self.consoles[console_of(reply.transaction) as usize];
         if !console.awaits(&reply) {

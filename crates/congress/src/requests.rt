@@ -1,9 +1,8 @@
 // Deliver, of a request: what becomes of it.
 ghost use Rattle.std.specs.Prelude.{◌≡◌, ◌<◌, List};
 ghost use Rattle.congress.specs.Kept.{locks};
-ghost use Rattle.congress.specs.Meaning.{with_post};
+ghost use Rattle.congress.specs.Meaning.{scene_of};
 ghost use Rattle.congress.specs.Requests.{class_in, verdict, by_verdict, fate_free, fate_locking, fate_timestamp, fate, is_old};
-ghost use Rattle.congress.specs.State.{scene};
 ghost use Rattle.records.specs.declared.messages.Message.{Message};
 
 use super::fates::Fate;
@@ -48,7 +47,7 @@ impl Hall {
 impl Congress {
     // In locking mode: a key that is held is in the way of all, and then it goes by the class.
     fn fate_locking<B: Book>(&self, book: &B, request: &Request) -> Fate
-        ensures { (post : List Message) → result ≡ fate_locking B.model (scene (with_post self.now post) (B.pages book.now)) request.now }
+        ensures { (post : List Message) → result ≡ fate_locking B.model (scene_of self.now post (B.pages book.now)) request.now }
     {
         if self.holds_key(request.to, B::keys(request.operation)) {
             return Fate::Conflicts;
@@ -62,7 +61,7 @@ impl Congress {
 
     // In timestamp mode: only a coordinated part needs the hall for itself.
     fn fate_timestamp<B: Book>(&self, book: &B, request: &Request) -> Fate
-        ensures { (post : List Message) → result ≡ fate_timestamp B.model (scene (with_post self.now post) (B.pages book.now)) request.now (class_in request.now) }
+        ensures { (post : List Message) → result ≡ fate_timestamp B.model (scene_of self.now post (B.pages book.now)) request.now (class_in request.now) }
     {
         match class_in(request) {
             Class::Single | Class::Independent => Fate::Enters,
@@ -78,7 +77,7 @@ impl Congress {
     // What becomes of a request; its hall is known to exist.
     pub(crate) fn fate<B: Book>(&self, book: &B, request: &Request) -> Fate
         requires { request.now.to < 8 }
-        ensures { (post : List Message) → result ≡ fate B.model (scene (with_post self.now post) (B.pages book.now)) request.now }
+        ensures { (post : List Message) → result ≡ fate B.model (scene_of self.now post (B.pages book.now)) request.now }
     {
         if self.halls[request.to as usize].is_locking() {
             self.fate_locking(book, request)

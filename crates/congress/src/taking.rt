@@ -2,9 +2,9 @@
 ghost use Rattle.std.specs.Prelude.{◌≡◌, ℕ, ◌^◌, ◌<◌, ◌≤◌, true, false, cond, ◌&&◌, Err, List, [], ◌∷◌, ◌++◌, Ok, length, slice_set};
 ghost use Rattle.book.specs.Model.{Page};
 ghost use Rattle.congress.specs.Kept.{locks, kept};
-ghost use Rattle.congress.specs.Meaning.{state, with_post};
+ghost use Rattle.congress.specs.Meaning.{state, with_post, scene_of};
 ghost use Rattle.congress.specs.Requests.{hall_of, class_in, recorded, locked_for, entry_for, falling, sent, recording, taken_as, take_as, fate, needs_entry, full, is_old, request_step};
-ghost use Rattle.congress.specs.State.{Scene, scene, hall_at, with_hall, with_entries, lacks_room, sending};
+ghost use Rattle.congress.specs.State.{Scene, hall_at, with_hall, with_entries, lacks_room, sending};
 ghost use Rattle.congress.specs.Telling.{tell};
 ghost use Rattle.congress.specs.declared.fates.Fate.TheVariants.{Enters, Runs};
 ghost use Rattle.records.specs.Classes.{status_number};
@@ -107,14 +107,20 @@ fn needed<B: Book>(request: Request, fate: Fate) -> usize
 impl Congress {
     // The part waits in the queue, and its hall votes commit.
     #[tactic(auto, using(crate::proofs::Takes::kept_enters))]
-    fn enter<B: Book>(&mut self, book: &B, post: &mut [Message], request: Request, stamp: u64) -> Report
+    fn enter<B: Book>(
+        &mut self,
+        book: &B,
+        post: &mut [Message],
+        request: Request,
+        stamp: u64,
+    ) -> Report
         requires exists { request.to < 8 }
         requires named { names request.halls request.to ≡ true }
         requires new { is_old (hall_at (state self.old) request.to) request.transaction ≡ false }
-        requires enters { needs_entry (fate B.model (scene (with_post self.old post.old) (B.pages book.now)) request) ≡ true }
+        requires enters { needs_entry (fate B.model (scene_of self.old post.old (B.pages book.now)) request) ≡ true }
         requires place { self.old.waiting < 64 }
-        requires room { lacks_room (with_post self.old post.old) (length (sent B.model (scene (with_post self.old post.old) (B.pages book.now)) request stamp Enters)) ≡ false }
-        ensures { (Ok result, scene (with_post self.new post.new) (B.pages book.now)) ≡ taken_as B.model (scene (with_post self.old post.old) (B.pages book.now)) request stamp Enters }
+        requires room { lacks_room (with_post self.old post.old) (length (sent B.model (scene_of self.old post.old (B.pages book.now)) request stamp Enters)) ≡ false }
+        ensures { (Ok result, scene_of self.new post.new (B.pages book.now)) ≡ taken_as B.model (scene_of self.old post.old (B.pages book.now)) request stamp Enters }
     {
         let hall = self.halls[request.to as usize];
         let entry = entry_for::<B>(hall, request, stamp);
@@ -141,11 +147,17 @@ impl Congress {
 
     // A single is done at once.
     #[tactic(auto, using(crate::proofs::Takes::kept_records))]
-    fn run_at_once<B: Book>(&mut self, book: &mut B, post: &mut [Message], request: Request, stamp: u64) -> Report
+    fn run_at_once<B: Book>(
+        &mut self,
+        book: &mut B,
+        post: &mut [Message],
+        request: Request,
+        stamp: u64,
+    ) -> Report
         requires exists { request.to < 8 }
         requires new { is_old (hall_at (state self.old) request.to) request.transaction ≡ false }
         requires room { lacks_room (with_post self.old post.old) 1 ≡ false }
-        ensures { (Ok result, scene (with_post self.new post.new) (B.pages book.new)) ≡ taken_as B.model (scene (with_post self.old post.old) (B.pages book.old)) request stamp Runs }
+        ensures { (Ok result, scene_of self.new post.new (B.pages book.new)) ≡ taken_as B.model (scene_of self.old post.old (B.pages book.old)) request stamp Runs }
     {
         let hall = self.halls[request.to as usize];
         let done = Hall {
@@ -173,11 +185,19 @@ impl Congress {
 
     // The part falls: its hall votes so, and replies with this answer.
     #[tactic(auto, using(crate::proofs::Takes::kept_records, crate::proofs::Sent::posting_push))]
-    fn fall(&mut self, post: &mut [Message], request: Request, stamp: u64, status: Status, outcome: Outcome, answer: Answer) -> Report
+    fn fall(
+        &mut self,
+        post: &mut [Message],
+        request: Request,
+        stamp: u64,
+        status: Status,
+        outcome: Outcome,
+        answer: Answer,
+    ) -> Report
         requires exists { request.to < 8 }
         requires new { is_old (hall_at (state self.old) request.to) request.transaction ≡ false }
         requires room { lacks_room (with_post self.old post.old) (length (falling request stamp status answer)) ≡ false }
-        ensures { (pages : ℕ → Page) → (Ok result, scene (with_post self.new post.new) pages) ≡ tell (sending (recording (scene (with_post self.old post.old) pages) request) (falling request stamp status answer)) outcome request.transaction request.to stamp answer }
+        ensures { (pages : ℕ → Page) → (Ok result, scene_of self.new post.new pages) ≡ tell (sending (recording (scene_of self.old post.old pages) request) (falling request stamp status answer)) outcome request.transaction request.to stamp answer }
     {
         let hall = self.halls[request.to as usize];
         self.set_hall(request.to, hall.recorded(request.transaction));
@@ -190,14 +210,7 @@ impl Congress {
             stamp,
             number,
         );
-        self.send_reply(
-            post,
-            request.transaction,
-            request.to,
-            stamp,
-            number,
-            answer,
-        );
+        self.send_reply(post, request.transaction, request.to, stamp, number, answer);
         Report {
             outcome,
             transaction: request.transaction,
@@ -218,9 +231,16 @@ impl Congress {
     }
 
     // Whether there is a place for the entry of a request that becomes this, and room for what it sends.
-    fn check_places<B: Book>(&self, book: &B, post: &[Message], request: Request, stamp: u64, fate: Fate) -> Result<(), Refusal>
+    fn check_places<B: Book>(
+        &self,
+        book: &B,
+        post: &[Message],
+        request: Request,
+        stamp: u64,
+        fate: Fate,
+    ) -> Result<(), Refusal>
         requires { names request.halls request.to ≡ true }
-        ensures { result ≡ cond (needs_entry fate && full (scene (with_post self.now post.now) (B.pages book.now))) (Err Refusal.QueueFull) (cond (lacks_room (with_post self.now post.now) (length (sent B.model (scene (with_post self.now post.now) (B.pages book.now)) request stamp fate))) (Err Refusal.NoRoom) (Ok tt)) }
+        ensures { result ≡ cond (needs_entry fate && full (scene_of self.now post.now (B.pages book.now))) (Err Refusal.QueueFull) (cond (lacks_room (with_post self.now post.now) (length (sent B.model (scene_of self.now post.now (B.pages book.now)) request stamp fate))) (Err Refusal.NoRoom) (Ok tt)) }
     {
         if matches!(fate, Fate::Enters) && self.is_full() {
             return Err(Refusal::QueueFull);
@@ -232,14 +252,21 @@ impl Congress {
     }
 
     // A request that a hall takes becomes this; there is room for it.
-    fn settle_as<B: Book>(&mut self, book: &mut B, post: &mut [Message], request: Request, stamp: u64, found: Fate) -> Report
+    fn carry_out<B: Book>(
+        &mut self,
+        book: &mut B,
+        post: &mut [Message],
+        request: Request,
+        stamp: u64,
+        found: Fate,
+    ) -> Report
         requires exists { request.to < 8 }
         requires named { names request.halls request.to ≡ true }
         requires new { is_old (hall_at (state self.old) request.to) request.transaction ≡ false }
-        requires fate { found ≡ fate B.model (scene (with_post self.old post.old) (B.pages book.old)) request }
-        requires place { (needs_entry found && full (scene (with_post self.old post.old) (B.pages book.old))) ≡ false }
-        requires room { lacks_room (with_post self.old post.old) (length (sent B.model (scene (with_post self.old post.old) (B.pages book.old)) request stamp found)) ≡ false }
-        ensures { (Ok result, scene (with_post self.new post.new) (B.pages book.new)) ≡ taken_as B.model (scene (with_post self.old post.old) (B.pages book.old)) request stamp found }
+        requires fate { found ≡ fate B.model (scene_of self.old post.old (B.pages book.old)) request }
+        requires place { (needs_entry found && full (scene_of self.old post.old (B.pages book.old))) ≡ false }
+        requires room { lacks_room (with_post self.old post.old) (length (sent B.model (scene_of self.old post.old (B.pages book.old)) request stamp found)) ≡ false }
+        ensures { (Ok result, scene_of self.new post.new (B.pages book.new)) ≡ taken_as B.model (scene_of self.old post.old (B.pages book.old)) request stamp found }
     {
         match found {
             Fate::Enters => self.enter(book, post, request, stamp),
@@ -264,22 +291,33 @@ impl Congress {
     }
 
     // A hall takes a request with this stamp.
-    fn take_as<B: Book>(&mut self, book: &mut B, post: &mut [Message], request: Request, stamp: u64) -> Result<Report, Refusal>
+    fn take_as<B: Book>(
+        &mut self,
+        book: &mut B,
+        post: &mut [Message],
+        request: Request,
+        stamp: u64,
+    ) -> Result<Report, Refusal>
         requires exists { request.to < 8 }
         requires named { names request.halls request.to ≡ true }
         requires new { is_old (hall_at (state self.old) request.to) request.transaction ≡ false }
-        ensures { (result, scene (with_post self.new post.new) (B.pages book.new)) ≡ take_as B.model (scene (with_post self.old post.old) (B.pages book.old)) request stamp (fate B.model (scene (with_post self.old post.old) (B.pages book.old)) request) }
+        ensures { (result, scene_of self.new post.new (B.pages book.new)) ≡ take_as B.model (scene_of self.old post.old (B.pages book.old)) request stamp (fate B.model (scene_of self.old post.old (B.pages book.old)) request) }
     {
         let fate = self.fate(book, &request);
         self.check_places(book, post, request, stamp, fate)?;
-        Ok(self.settle_as(book, post, request, stamp, fate))
+        Ok(self.carry_out(book, post, request, stamp, fate))
     }
 
     // A hall takes a request, unless it has taken it or a later one of the console; the hall is known to exist and be named.
-    pub(crate) fn take_request<B: Book>(&mut self, book: &mut B, post: &mut [Message], request: Request) -> Result<Report, Refusal>
+    pub(crate) fn take_request<B: Book>(
+        &mut self,
+        book: &mut B,
+        post: &mut [Message],
+        request: Request,
+    ) -> Result<Report, Refusal>
         requires exists { request.to < 8 }
         requires named { names request.halls request.to ≡ true }
-        ensures { (result, scene (with_post self.new post.new) (B.pages book.new)) ≡ request_step B.model (scene (with_post self.old post.old) (B.pages book.old)) request }
+        ensures { (result, scene_of self.new post.new (B.pages book.new)) ≡ request_step B.model (scene_of self.old post.old (B.pages book.old)) request }
     {
         let hall = self.halls[request.to as usize];
         if hall.is_old(request.transaction) {

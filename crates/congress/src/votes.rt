@@ -2,9 +2,9 @@
 ghost use Rattle.std.specs.Prelude.{◌≡◌, ℕ, ◌+◌, ◌<◌, List, Ok, true, slice_set};
 ghost use Rattle.book.specs.Model.{Page};
 ghost use Rattle.congress.specs.Kept.{kept};
-ghost use Rattle.congress.specs.Meaning.{state, with_post};
+ghost use Rattle.congress.specs.Meaning.{state, scene_of};
 ghost use Rattle.congress.specs.Queue.{entry_in, without};
-ghost use Rattle.congress.specs.State.{scene, hall_at, with_hall, with_entries, lacks_room};
+ghost use Rattle.congress.specs.State.{hall_at, with_hall, with_entries, lacks_room};
 ghost use Rattle.congress.specs.Telling.{tell};
 ghost use Rattle.congress.specs.Votes.{settled, leaving, counts, counted, counted_as, count_vote, removed, remove_entry, vote_on, vote_step};
 ghost use Rattle.congress.specs.declared.outcomes.Outcome.TheVariants.{Removed};
@@ -96,7 +96,7 @@ impl Congress {
     fn count_vote(&mut self, vote: Vote, place: usize, entry: Entry) -> Report
         requires inside { place < self.old.waiting }
         requires keeps { kept (state self.old).halls (slice_set (state self.old).entries place entry) ≡ true }
-        ensures { (post : List Message) (pages : ℕ → Page) → (Ok result, scene (with_post self.new post) pages) ≡ count_vote (scene (with_post self.old post) pages) vote place entry }
+        ensures { (post : List Message) (pages : ℕ → Page) → (Ok result, scene_of self.new post pages) ≡ count_vote (scene_of self.old post pages) vote place entry }
     {
         self.set_entry(place, entry);
         Report {
@@ -118,7 +118,7 @@ impl Congress {
     ) -> Result<Report, Refusal>
         requires exists { vote.to < 8 }
         requires inside { place < self.old.waiting }
-        ensures { (pages : ℕ → Page) → (result, scene (with_post self.new post.new) pages) ≡ remove_entry (scene (with_post self.old post.old) pages) vote place entry }
+        ensures { (pages : ℕ → Page) → (result, scene_of self.new post.new pages) ≡ remove_entry (scene_of self.old post.old pages) vote place entry }
     {
         if self.lacks_room(post, 1) {
             return Err(Refusal::NoRoom);
@@ -154,7 +154,7 @@ impl Congress {
         requires from { vote.from < 8 }
         requires inside { place < self.old.waiting }
         requires entry { entry_in (state self.old).entries place ≡ entry }
-        ensures { (pages : ℕ → Page) → (result, scene (with_post self.new post.new) pages) ≡ vote_on (scene (with_post self.old post.old) pages) vote place entry }
+        ensures { (pages : ℕ → Page) → (result, scene_of self.new post.new pages) ≡ vote_on (scene_of self.old post.old pages) vote place entry }
     {
         if !entry.counts(vote.from) {
             return Ok(Report::default());
@@ -166,14 +166,10 @@ impl Congress {
     }
 
     // A vote of one hall comes to another; both are known to exist.
-    pub(crate) fn take_vote(
-        &mut self,
-        post: &mut [Message],
-        vote: Vote,
-    ) -> Result<Report, Refusal>
+    pub(crate) fn take_vote(&mut self, post: &mut [Message], vote: Vote) -> Result<Report, Refusal>
         requires exists { vote.to < 8 }
         requires from { vote.from < 8 }
-        ensures { (pages : ℕ → Page) → (result, scene (with_post self.new post.new) pages) ≡ vote_step (scene (with_post self.old post.old) pages) vote }
+        ensures { (pages : ℕ → Page) → (result, scene_of self.new post.new pages) ≡ vote_step (scene_of self.old post.old pages) vote }
     {
         match self.place_of(vote.to, vote.transaction) {
             Some(place) => {

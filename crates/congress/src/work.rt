@@ -1,9 +1,8 @@
 // Work: a hall does a part that waits.
 ghost use Rattle.std.specs.Prelude.{◌≡◌, ◌<◌, IfSome};
 ghost use Rattle.congress.specs.Calls.{Untouched};
-ghost use Rattle.congress.specs.Meaning.{state, with_post};
+ghost use Rattle.congress.specs.Meaning.{state, scene_of};
 ghost use Rattle.congress.specs.Queue.{entry_in};
-ghost use Rattle.congress.specs.State.{scene};
 ghost use Rattle.congress.specs.Work.{raised, work_entry, work_on, work_step};
 
 use super::outcomes::{Outcome, Report};
@@ -36,7 +35,7 @@ impl Congress {
     ) -> Result<Report, Refusal>
         requires exists { hall < 8 }
         requires inside { place < self.old.waiting }
-        ensures { (result, scene (with_post self.new post.new) (B.pages book.new)) ≡ work_entry B.model (scene (with_post self.old post.old) (B.pages book.old)) hall place entry }
+        ensures { (result, scene_of self.new post.new (B.pages book.new)) ≡ work_entry B.model (scene_of self.old post.old (B.pages book.old)) hall place entry }
     {
         if self.lacks_room(post, 1) {
             return Err(Refusal::NoRoom);
@@ -71,7 +70,7 @@ impl Congress {
     ) -> Result<Report, Refusal>
         requires exists { hall < 8 }
         requires inside { IfSome turn (λ i. i < self.old.waiting) }
-        ensures { (result, scene (with_post self.new post.new) (B.pages book.new)) ≡ work_on B.model (scene (with_post self.old post.old) (B.pages book.old)) hall turn }
+        ensures { (result, scene_of self.new post.new (B.pages book.new)) ≡ work_on B.model (scene_of self.old post.old (B.pages book.old)) hall turn }
     {
         match turn {
             Some(place) => {
@@ -89,8 +88,8 @@ impl Congress {
         post: &mut [Message],
         hall: u8,
     ) -> Result<Report, Refusal>
-        ensures step { (result, scene (with_post self.new post.new) (B.pages book.new)) ≡ work_step B.model (scene (with_post self.old post.old) (B.pages book.old)) hall }
-        ensures refused { Untouched result (scene (with_post self.old post.old) (B.pages book.old)) (scene (with_post self.new post.new) (B.pages book.new)) }
+        ensures step { (result, scene_of self.new post.new (B.pages book.new)) ≡ work_step B.model (scene_of self.old post.old (B.pages book.old)) hall }
+        ensures refused { Untouched result (scene_of self.old post.old (B.pages book.old)) (scene_of self.new post.new (B.pages book.new)) }
     {
         self.check_post(post)?;
         if hall >= self.opened {

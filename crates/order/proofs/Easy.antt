@@ -1,5 +1,5 @@
 -- The calls that change little: Open, Clock, Drop, and the delivery of a reply; and what goes into the post.
-use Rattle.std.proofs.Common.{◌≡◌, ℕ, ◌%◌, ◌<◌, ◌≤◌, ◌+◌, min, Bool, List, ◌++◌, length, get_or, refl, sym, ap, ◌∙◌, inl, inr, arith}
+use Rattle.std.proofs.Common.{◌≡◌, ℕ, ◌<◌, ◌≤◌, ◌+◌, min, List, length, get_or, refl, ap, inl, inr, arith, false, subst}
 use Rattle.book.specs.Model.{Model}
 use Rattle.congress.specs.Calls.{dropped}
 use Rattle.congress.specs.Kept.{locks}
@@ -49,13 +49,13 @@ module _ {m : Model} {said : Sayings} {s : Scene} {H : History} (kept : Kept m s
   pub sending_kept : (new : List Message) → Room s.world (length new) → ((x : Message) → x ∈ new → Genuine said H.issues x) → Kept m said (sending s new) H
   sending_kept new room true_all =
       post_kept kept (posting s.world new)
-      (λ x i. elim (in_append x (messages s.world) new (Rattle.std.proofs.Common.subst (λ (l : List Message). x ∈ l) (messages_posting s.world new room) i)) [
+      (λ x i. elim (in_append x (messages s.world) new (subst (λ (l : List Message). x ∈ l) (messages_posting s.world new room) i)) [
         | inl j ↦ kept.told.posted x j
         | inr j ↦ true_all x j
       ])
       refl refl refl
 
-  pub drops_kept : (place : ℕ) → short s.world ≡ Rattle.std.proofs.Common.false → place < s.world.state.count → Kept m said (scene (dropped s.world place) s.pages) H
+  pub drops_kept : (place : ℕ) → short s.world ≡ false → place < s.world.state.count → Kept m said (scene (dropped s.world place) s.pages) H
   drops_kept place long l = post_kept kept (dropped s.world place) (λ x i. kept.told.posted x (in_dropped s.world place x long l i)) refl refl refl
 
   module _ (sound : Sound s.world.state) where

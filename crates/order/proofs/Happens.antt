@@ -1,5 +1,5 @@
 -- What a call does: one way for each end that a call can come to, with what is then known. All other proofs go by these ways.
-use Rattle.std.proofs.Common.{◌≡◌, ℕ, ◌+◌, ◌<◌, ◌≤◌, Bool, true, false, ◌⊎◌, List, Ok, Err, Some, None, Option, Result, length, get_or}
+use Rattle.std.proofs.Common.{◌≡◌, ℕ, ◌+◌, ◌<◌, ◌≤◌, Bool, true, false, ◌⊎◌, List, Ok, Err, Some, Result, length, get_or, set}
 use Rattle.std.specs.Prelude.{count_ones}
 use Rattle.book.specs.Model.{Model}
 use Rattle.congress.specs.Calls.{issued, dropped}
@@ -107,6 +107,13 @@ pub record MayWork (s : Scene) (h i : ℕ) (e : Entry) : Type 0 where
   pub first : (f : Entry) → f ∈ entries_of s → f.hall ≡ h → (is_locking s h ≡ true) ⊎ (sooner f e ≡ false)
   pub room : Room s.world 1
 
+-- what the vote and the reply that are taken leave
+abbrev pub with_vote : Scene → Vote → ℕ → Entry → Scene
+with_vote s v i e = with_state s (with_entries s.world.state (set (entries_of s) i (counted e v)))
+
+abbrev pub with_reply_of : Scene → Reply → Scene
+with_reply_of s r = with_state s (with_console s.world.state (console r.transaction) (answered (console_of s r) r))
+
 pub data Happens (m : Model) (s : Scene) : Call → Result Said Refusal × Scene → Type 0 where
   refuses : (call : Call) (why : Refusal) → Happens m s call (Err why, s)
   passes : (place : ℕ) → Happens m s (Deliver place) (reported (pass_over s))
@@ -122,17 +129,17 @@ pub data Happens (m : Model) (s : Scene) : Call → Result Said Refusal × Scene
   aborts : (place : ℕ) (r : Request) (stamp : ℕ) → Asked s place r stamp → Room s.world (length (sent m s r stamp (Aborts (verdict m s r))))
       → Happens m s (Deliver place) (reported (taken_as m s r stamp (Aborts (verdict m s r))))
   counts : (place : ℕ) (v : Vote) (i : ℕ) (e : Entry) → Voted s place v i e → v.status ≡ 1
-      → Happens m s (Deliver place) (reported (tell (with_state s (with_entries s.world.state (Rattle.std.proofs.Common.set (entries_of s) i (counted e v)))) Counted v.transaction v.to (counted e v).stamp no_answer))
+      → Happens m s (Deliver place) (reported (tell (with_vote s v i e) Counted v.transaction v.to (counted e v).stamp no_answer))
   readies : (place : ℕ) (v : Vote) (i : ℕ) (e : Entry) → Voted s place v i e → v.status ≡ 1
-      → Happens m s (Deliver place) (reported (tell (with_state s (with_entries s.world.state (Rattle.std.proofs.Common.set (entries_of s) i (counted e v)))) Readied v.transaction v.to (counted e v).stamp no_answer))
+      → Happens m s (Deliver place) (reported (tell (with_vote s v i e) Readied v.transaction v.to (counted e v).stamp no_answer))
   removes : (place : ℕ) (v : Vote) (i : ℕ) (e : Entry) → Voted s place v i e → (v.status ≡ 1 → ⊥) → Room s.world 1
       → Happens m s (Deliver place) (reported (tell (removed s v i e) Removed v.transaction v.to e.stamp no_answer))
   replies : (place : ℕ) (r : Reply) → Answered s place r
-      → Happens m s (Deliver place) (reported (tell (with_state s (with_console s.world.state (console r.transaction) (answered (console_of s r) r))) Replied r.transaction r.from r.stamp r.answer))
+      → Happens m s (Deliver place) (reported (tell (with_reply_of s r) Replied r.transaction r.from r.stamp r.answer))
   confirms : (place : ℕ) (r : Reply) → Answered s place r → r.status ≡ 1 → complete (console_of s r) r ≡ true
-      → Happens m s (Deliver place) (reported (tell (with_state s (with_console s.world.state (console r.transaction) (answered (console_of s r) r))) Confirmed r.transaction r.from r.stamp r.answer))
+      → Happens m s (Deliver place) (reported (tell (with_reply_of s r) Confirmed r.transaction r.from r.stamp r.answer))
   frees : (place : ℕ) (r : Reply) → Answered s place r
-      → Happens m s (Deliver place) (reported (tell (with_state s (with_console s.world.state (console r.transaction) (answered (console_of s r) r))) Freed r.transaction r.from r.stamp r.answer))
+      → Happens m s (Deliver place) (reported (tell (with_reply_of s r) Freed r.transaction r.from r.stamp r.answer))
   works : (h i : ℕ) (e : Entry) → MayWork s h i e
       → Happens m s (Work h) (reported (tell (worked m s h i e) Done e.transaction h e.stamp (part_answer m s h e)))
   clocks : (h time : ℕ) → h < s.world.state.opened

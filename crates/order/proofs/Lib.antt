@@ -25,3 +25,4 @@ pub mod Tokens
 pub mod Moves
 pub mod Removal
 pub mod Main
+pub mod Conducted

@@ -5,6 +5,8 @@ use Rattle.congress.specs.Requests.{hall_of, verdict}
 use Rattle.congress.specs.Sending.{no_answer}
 use Rattle.congress.specs.State.{State, Scene, scene, world, fresh, with_state, messages}
 use Rattle.congress.specs.declared.refusals.Refusal.{Refusal}
+use Rattle.congress.specs.declared.tables.Entry.{Entry}
+use Rattle.std.proofs.lemmas.Bool.Decides.{nat_tests}
 use Rattle.congress.specs.declared.refusals.Refusal.TheVariants.{BadHalls}
 use Rattle.order.proofs.Cases.{what_happens}
 use Rattle.order.proofs.Changes.{confirms_kept}
@@ -34,7 +36,7 @@ use Rattle.records.specs.declared.messages.Message.{Message}
 use Rattle.records.specs.declared.messages.Request.{Request}
 use Rattle.records.specs.declared.messages.Vote.{Vote}
 use Rattle.roll.specs.Over.{IsRoll}
-use Rattle.std.proofs.lemmas.Bool.{cond-false, and_parts, ltb-true, le-ltb}
+use Rattle.std.proofs.lemmas.Bool.{cond-false, and_parts, ltb-true}
 
 -- what the halls have said after a call
 abbrev pub said_after : {m : Model} {s : Scene} {c : Call} {st : Result Said Refusal × Scene} → Sayings → Happens m s c st → Sayings
@@ -66,7 +68,7 @@ module _ (m : Model) (laws : Lawful m) (said : Sayings) (s : Scene) (H : History
   above : {place : ℕ} {r : Request} {stamp : ℕ} → Asked s place r stamp → (hall_of s r).last < stamp
   above {place} {r} {stamp} a = stamp_above r.high (hall_of s r).last (hall_of s r).clock stamp a.stamp_is
 
-  hall_inside : {place : ℕ} {v : Vote} {i : ℕ} {e : Rattle.congress.specs.declared.tables.Entry.Entry} → Voted s place v i e → v.to < length s.world.state.halls
+  hall_inside : {place : ℕ} {v : Vote} {i : ℕ} {e : Entry} → Voted s place v i e → v.to < length s.world.state.halls
   hall_inside {place} {v} met =
       let one = and_parts (transaction v.transaction) _ met.delivered.law in
       let two = and_parts (ltb v.from s.world.state.opened) _ one.1 in
@@ -122,7 +124,7 @@ opens_so m s halls low high =
     (cond-false (eqb halls 0 || ltb 8 halls) (Err BadHalls, s.world.state) (Ok tt, fresh halls) (between halls low high))
   where
     between : (n : ℕ) → 1 ≤ n → n ≤ 8 → (eqb n 0 || ltb 8 n) ≡ false
-    between n l u = grind (arith, Rattle.std.proofs.lemmas.Bool.Decides.nat_tests)
+    between n l u = grind (arith, nat_tests)
 
 pub opened_stands : (m : Model) (s : Scene) (halls : ℕ) → 1 ≤ halls → halls ≤ 8 → ((h : ℕ) → m.own (s.pages h)) → Stands m (one_call m (Open halls) (beginning s))
 opened_stands m s halls low high own =

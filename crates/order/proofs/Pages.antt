@@ -1,9 +1,9 @@
 -- Functions of the hall, with one value changed; and the pages of a book so.
-use Rattle.std.proofs.Common.{◌≡◌, ℕ, ◌<◌, Bool, true, cond, ◌&&◌, eqb, ltb, refl, sym, ap, ◌∙◌}
+use Rattle.std.proofs.Common.{◌≡◌, ℕ, ◌<◌, cond, ◌&&◌, eqb, ltb, refl, sym, ap, ◌∙◌}
 use mathlib.Core.Path.{fun_ext}
 use Rattle.book.specs.Model.{Page, Model, told, turned, no_hall}
 use Rattle.records.specs.declared.Operation.{Operation}
-use Rattle.std.proofs.lemmas.Bool.{cond_both, cond-true, eqb-true, eqb-false, and_from, lt-ltb, cases_eq}
+use Rattle.std.proofs.lemmas.Bool.{cond_both, cond-true, eqb-true, eqb-false, and_from, lt-ltb, eq-eqb, and_parts}
 
 abbrev pub put : {A : Type 0} → (ℕ → A) → ℕ → A → ℕ → A
 put f h v k = cond (eqb k h) v (f k)
@@ -27,13 +27,7 @@ told_is m pages h o l = cond-true (ltb h 8) (m.answer (pages h) o) (no_hall m h)
 pub turned_is : (m : Model) (pages : ℕ → Page) (h : ℕ) (o : Operation) → h < 8 → turned m pages h o ≡ put pages h (m.next (pages h) o)
 turned_is m pages h o l =
     fun_ext (λ k. put_at (λ (p : Page). turned m pages h o k ≡ p) pages h (m.next (pages h) o) k
-    (λ e. cond-true (ltb h 8 && eqb k h) (m.next (pages k) o) (pages k) (and_from (ltb h 8) (eqb k h) (lt-ltb h 8 l) (eq_so k e))
+    (λ e. cond-true (ltb h 8 && eqb k h) (m.next (pages k) o) (pages k) (and_from (ltb h 8) (eqb k h) (lt-ltb h 8 l) (eq-eqb k h e))
     ∙ ap (λ (j : ℕ). m.next (pages j) o) e)
     (λ n. cond_both (ltb h 8 && eqb k h) (m.next (pages k) o) (pages k) (λ (p : Page). p ≡ pages k)
-    (λ t. absurd (n (eqb-true k h (and_right (ltb h 8) (eqb k h) t)))) (λ _. refl)))
-  where
-    eq_so : (k : ℕ) → k ≡ h → eqb k h ≡ true
-    eq_so k e = Rattle.std.proofs.lemmas.Bool.eq-eqb k h e
-
-    and_right : (a b : Bool) → (a && b) ≡ true → b ≡ true
-    and_right a b t = (Rattle.std.proofs.lemmas.Bool.and_parts a b t).1
+    (λ t. absurd (n (eqb-true k h (and_parts (ltb h 8) (eqb k h) t).1))) (λ _. refl)))

@@ -20,7 +20,7 @@ use Rattle.order.proofs.Easy.{sending_kept}
 use Rattle.order.proofs.Effects.{says, says_here, above_last}
 use Rattle.order.proofs.Happens.{Room, MayEnter, MayDo}
 use Rattle.order.proofs.Invariant.{Saying, silent, agreed, denied, Sayings, Meant, Genuine, Counted, Agreed, Standing, Holds, last_of, locking_of, taken_of, Kept}
-use Rattle.order.proofs.Lists.{in_push, in_append, in_one}
+use Rattle.order.proofs.Lists.{some_is, none_is_some, in_push, in_one}
 use Rattle.order.proofs.Pages.{put, told_is, turned_is}
 use Rattle.order.proofs.Posting.{in_to_each}
 use Rattle.order.proofs.Queue.{any_none, held_none}
@@ -69,8 +69,8 @@ lawful_is number r h =
 pub stamp_above : (high last clock n : ℕ) → next_stamp high last clock ≡ Some n → last < n
 stamp_above high last clock n =
     cond_both (ltb (max (max high last) clock) (2 ^ 48)) (Some (max (max high last) clock + 1)) None (λ (o : Option ℕ). o ≡ Some n → last < n)
-    (λ _ e. let q : max (max high last) clock + 1 ≡ n = Rattle.order.proofs.Lists.some_is e in omega arith)
-    (λ _ e. absurd (Rattle.order.proofs.Lists.none_is_some e))
+    (λ _ e. let q : max (max high last) clock + 1 ≡ n = some_is e in omega arith)
+    (λ _ e. absurd (none_is_some e))
 
 -- The votes that a hall sends are true once it has spoken.
 

@@ -22,7 +22,7 @@ use Rattle.order.proofs.Lists.{in_at, in_one}
 use Rattle.order.proofs.Pages.{put, told_is, turned_is}
 use Rattle.order.proofs.Plain.{AfterOrApart}
 use Rattle.order.proofs.Sound.{Sound, others_apart}
-use Rattle.order.proofs.Vote.{left_in, leaving_kept}
+use Rattle.order.proofs.Vote.{left_in, leaving_last, leaving_kept}
 use Rattle.order.specs.History.{Issued, History, issue_of, part_given, is_coordinated, part_done, with_done}
 use Rattle.order.specs.Plain.{Part}
 use Rattle.order.specs.Promises.{◌∈◌}
@@ -108,7 +108,7 @@ module _ {m : Model} (laws : Lawful m) {said : Sayings} {s : Scene} {H : History
       raised_inside = let l = inside in let e : length (raised s.world.state h x.stamp).halls ≡ length s.world.state.halls = length-set s.world.state.halls h hall' in omega arith
 
   last_up : x.stamp ≤ last_of (leaving (raised st h x.stamp) h i) h
-  last_up = Rattle.order.proofs.Vote.leaving_last (raised st h x.stamp) h i
+  last_up = leaving_last (raised st h x.stamp) h i
       (let l = inside in let e : length (raised s.world.state h x.stamp).halls ≡ length s.world.state.halls = length-set s.world.state.halls h hall' in omega arith)
       (λ (n : ℕ). x.stamp ≤ n)
       (let e : last_of (raised st h x.stamp) h ≡ max (last_of st h) x.stamp = ap (λ (w : Hall). w.last) (hall_is st h hall' inside) in omega arith)

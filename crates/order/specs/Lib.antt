@@ -4,3 +4,4 @@ pub mod History
 pub mod Runs
 pub mod Promises
 pub mod Removal
+pub mod Conduct

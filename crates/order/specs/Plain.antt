@@ -1,7 +1,6 @@
 -- A hall's plain order: the parts done there, by stamp and then by transaction number, run one by one.
-use Rattle.std.specs.Prelude.{◌≡◌, ℕ, Bool, cond, List, [], ◌∷◌, ◌==◌}
+use Rattle.std.specs.Prelude.{◌≡◌, ℕ, Bool, cond, ◌&&◌, ◌||◌, List, [], ◌∷◌, ◌==◌, nat_lt}
 use Rattle.book.specs.Model.{Page, Model}
-use Rattle.congress.specs.Queue.{before}
 use Rattle.records.specs.declared.Answer.{Answer}
 use Rattle.records.specs.declared.Operation.{Operation}
 
@@ -14,8 +13,9 @@ pub record Part : Type 0 where
   pub operation : Operation
   pub answer : Answer
 
+-- by stamp, and then by transaction number
 abbrev pub comes_before : Part → Part → Bool
-comes_before x y = before x.stamp x.transaction y.stamp y.transaction
+comes_before x y = nat_lt x.stamp y.stamp || (x.stamp == y.stamp && nat_lt x.transaction y.transaction)
 
 -- a part put into a list that is in order
 abbrev pub placed : Part → List Part → List Part

@@ -2,7 +2,9 @@
 #![tactic(auto)]
 
 mod calls;
+mod making;
 mod promises;
 
 pub use calls::{Call, Said};
+pub use making::{TooShort, conduct, make};
 pub use promises::{all_or_none_holds, congress_is_kept, one_order_holds, removal_holds};

@@ -1,12 +1,13 @@
 // The roll as a book: it answers for eight halls, and hands on to the book below what is not its own.
 ghost use Rattle.std.specs.Prelude.{◌≡◌, ℕ, ◌<◌, ◌≢◌};
+ghost use Rattle.std.specs.List.{slice_get};
 ghost use Rattle.records.specs.Answers.{done_with};
 ghost use Rattle.roll.specs.Roll.{filled, reply, after, roll_model, sheet_of, page_of, first_page};
 ghost use Rattle.roll.specs.Laws.{own_page, roll_lawful};
 ghost use Rattle.roll.specs.Table.{length_hall};
 
 use super::LAYER;
-use super::asking::{Ask, EMPTY, is_of_roll, key_of_entry};
+use super::asking::{Ask, EMPTY, ENTRIES, is_of_roll, key_of_entry};
 use super::refusals::{Refused, answer_with};
 use super::tokens::Tokens;
 use book::{Book, HALLS, refuse_hall};
@@ -40,6 +41,16 @@ fn tell(token: u32) -> Answer
 
 // What is asked at one of the eight halls.
 impl<B: Book> Roll<B> {
+    // The 16 tokens come first, and then the page of the book below.
+    fn number_at(&self, hall: Below<HALLS>, place: usize) -> Option<i64>
+        ensures { result ≡ slice_get (page_of B.pages self.now hall) place }
+    {
+        match Below::new(place) {
+            Some(entry) => Some(i64::from(self.tokens.at(hall, entry))),
+            None => self.below.number(hall.get() as u8, place - ENTRIES),
+        }
+    }
+
     fn verdict_at(&self, hall: Below<HALLS>, op: Operation) -> Result<Answer, Refused>
         ensures { result ≡ reply B.model (sheet_of B.pages self.now hall) op }
     {
@@ -96,5 +107,9 @@ impl<B: Book> Book for Roll<B> {
             Some(place) => answer_with(self.run_at(place, op)),
             None => refuse_hall(LAYER, hall),
         }
+    }
+
+    fn number(&self, hall: u8, place: usize) -> Option<i64> {
+        self.number_at(Below::new(usize::from(hall))?, place)
     }
 }

@@ -1,7 +1,7 @@
 -- A sheet that is written on a page is read again from it.
-use Rattle.std.specs.Prelude.{◌≡◌, ℕ, zero, suc, ◌+◌, ◌-◌, ◌*◌, ◌<◌, ◌≤◌, List, ◌++◌, length, ℤ, pos, slice_index, refl}
-use Rattle.std.proofs.Common.{inl, inr, sym, ap, ◌∙◌, one-add, mul-suc, arith}
-use Rattle.book.proofs.Below.{get_or-table, table_all, length-rows, get_or-rows}
+use Rattle.std.specs.Prelude.{◌≡◌, ℕ, ◌+◌, ◌-◌, ◌*◌, ◌<◌, List, ◌++◌, length, ℤ, pos, slice_index, refl}
+use Rattle.std.proofs.Common.{sym, ap, ◌∙◌, one-add, arith}
+use Rattle.book.proofs.Below.{row_inside, get_or-table, table_all, length-rows, get_or-rows}
 use Rattle.book.specs.Below.{table, rows}
 use Rattle.book.specs.Numbers.{natural, at}
 use Rattle.rounds.specs.Fits.{Fits}
@@ -10,7 +10,6 @@ use Rattle.rounds.specs.Kept.{Sized}
 use Rattle.rounds.specs.Pages.{write, read}
 use Rattle.rounds.specs.Sheets.{cell}
 use Rattle.rounds.specs.declared.sheets.Sheet.{Sheet}
-use Rattle.std.proofs.lemmas.Bool.{cases_eq}
 use Rattle.std.proofs.lemmas.List.{get_or_append_left, get_or-append_right}
 
 pub same_sheet : {C : Type 0} {cells totals : ℕ} (s t : Sheet C cells totals) → s.round ≡ t.round → s.cells ≡ t.cells → s.totals ≡ t.totals → s ≡ t
@@ -18,15 +17,6 @@ same_sheet s t r b u =
     ap (λ x. record { round = x; cells = s.cells; totals = s.totals }) r
     ∙ ap (λ x. record { round = t.round; cells = x; totals = s.totals }) b
     ∙ ap (λ x. record { round = t.round; cells = t.cells; totals = x }) u
-
--- a row of these ends before the next begins
-row_inside : (width k n : ℕ) → k < n → width * k + width ≤ width * n
-row_inside width k zero l = absurd (omega arith)
-row_inside width k (suc n) l =
-    elim (cases_eq k n) [
-      | inl e ↦ omega (arith, mul-suc width n, ap (λ i. width * i) e)
-      | inr ne ↦ omega (arith, mul-suc width n, row_inside width k n (omega arith))
-    ]
 
 module _ {C A : Type 0} {cells totals layer : ℕ} (g : Game C A cells totals) (f : Fits layer g) (s : Sheet C cells totals) where
   abbrev numbers : ℕ → List ℤ

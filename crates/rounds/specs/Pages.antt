@@ -9,8 +9,11 @@ use Rattle.rounds.specs.Sheets.{cell, answer, after}
 use Rattle.rounds.specs.declared.sheets.Sheet.{Sheet}
 
 module _ {C A : Type 0} {cells totals : ℕ} (g : Game C A cells totals) where
+  abbrev pub after_round : Sheet C cells totals → Page
+  after_round s = rows cells (λ a. g.numbers (cell g s a)) ++ table totals (λ i. pos (slice_index s.totals i))
+
   abbrev pub write : Sheet C cells totals → Page
-  write s = pos s.round ∷ (rows cells (λ a. g.numbers (cell g s a)) ++ table totals (λ i. pos (slice_index s.totals i)))
+  write s = pos s.round ∷ after_round s
 
   abbrev pub read : Page → Sheet C cells totals
   read p = record {

@@ -1,5 +1,6 @@
 // The cells of a sheet: the boards of chess or the deals of bridge.
 ghost use Rattle.std.specs.Prelude.{◌≡◌, ℕ, ◌≤◌};
+ghost use Rattle.std.specs.List.{slice_get};
 ghost use Rattle.rounds.specs.Games.{Game};
 ghost use Rattle.rounds.specs.Fits.{Fits};
 ghost use Rattle.rounds.specs.Rooms.{AskFitsInMemory};
@@ -19,6 +20,11 @@ pub trait Cell<const CELLS: usize, const TOTALS: usize>: Copy {
     const LAYER: u8;
 
     ghost LAYER: { ℕ };
+
+    // how many numbers it has on a page
+    const WIDTH: usize;
+
+    ghost WIDTH: { ℕ };
 
     // Nothing is played here.
     fn empty() -> Self
@@ -50,6 +56,15 @@ pub trait Cell<const CELLS: usize, const TOTALS: usize>: Copy {
     fn gain(&self, total: usize) -> u32
         ensures value { result ≡ game.gain total self.now }
         ensures few { result ≤ game.most };
+
+    // Number j of its numbers on a page; none past the last.
+    fn number(&self, j: usize) -> Option<i64>
+        ensures { result ≡ slice_get (game.numbers self.now) j };
+
+    ghost wide: { WIDTH ≡ game.width };
+
+    // it has some
+    ghost some: { 1 ≤ WIDTH };
 
     ghost fits: { Fits LAYER game };
 

@@ -1,9 +1,10 @@
 // The sheet of a hall, and what each operation answers and makes of it.
-ghost use Rattle.std.specs.Prelude.{◌≡◌, ◌≤◌, true, pos, is_ok, slice_index};
+ghost use Rattle.std.specs.Prelude.{◌≡◌, ◌≤◌, true, pos, is_ok, option_map, slice_index};
+ghost use Rattle.std.specs.List.{slice_get};
 ghost use Rattle.book.specs.Below.{some_below, all_below};
 ghost use Rattle.rounds.specs.Kept.{KeptSheet};
 ghost use Rattle.rounds.specs.Laws.{rounds_lawful, sized_own, blank_own};
-ghost use Rattle.rounds.specs.Pages.{write, model, blank};
+ghost use Rattle.rounds.specs.Pages.{after_round, write, model, blank};
 ghost use Rattle.rounds.specs.Rounds.{raised, Small};
 ghost use Rattle.rounds.specs.Sheets.{used_at, settled_at, closable, gained, closed, says, changed, said, made, answer, after};
 
@@ -146,6 +147,25 @@ impl<C: Cell<CELLS, TOTALS>, const CELLS: usize, const TOTALS: usize> Kept<C, CE
         }
     }
 
+    // Number i of those of the totals; none past the last.
+    fn total_number(&self, i: usize) -> Option<i64>
+        ensures { result ≡ option_map pos (slice_get self.now.sheet.totals i) }
+    {
+        self.sheet.totals.get(i).copied().map(i64::from)
+    }
+
+    // Number i of those of the cells and then of the totals; none past the last.
+    fn number_after_round(&self, i: usize) -> Option<i64>
+        ensures { result ≡ slice_get (after_round C.game self.now.sheet) i }
+    {
+        let cell = i / C::WIDTH;
+        if cell < CELLS {
+            self.sheet.cells[cell].number(i % C::WIDTH)
+        } else {
+            self.total_number(i - C::WIDTH * CELLS)
+        }
+    }
+
     // Makes the change of what is well done.
     fn change(&mut self, ask: Ask<C::Ask, CELLS, TOTALS>)
         requires { is_ok (says C.game self.old.sheet ask) ≡ true }
@@ -213,5 +233,12 @@ impl<C: Cell<CELLS, TOTALS>, const CELLS: usize, const TOTALS: usize> Hall
 
     fn run(&mut self, op: Operation) -> Answer {
         answer_with(C::LAYER, self.attempt(op), op.a)
+    }
+
+    fn number(&self, place: usize) -> Option<i64> {
+        if place == 0 {
+            return Some(i64::from(self.sheet.round));
+        }
+        self.number_after_round(place - 1)
     }
 }

@@ -7,7 +7,7 @@ use Rattle.records.specs.declared.Answer.{Answer}
 use Rattle.records.specs.declared.Operation.{Operation}
 
 -- kind, a, b and c, without a grant
-abbrev asking : ℕ → ℕ → ℕ → ℕ → Operation
+abbrev pub asking : ℕ → ℕ → ℕ → ℕ → Operation
 asking kind a b c = record { kind = kind; grant = 0; token = 0; a = a; b = b; c = pos c; d = 0 }
 
 abbrev seated : Page

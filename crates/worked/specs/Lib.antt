@@ -2,4 +2,5 @@
 pub mod Chess
 pub mod Bridge
 pub mod Lines
+pub mod Calls
 pub mod Examples

@@ -12,7 +12,7 @@ use records::{Answer, Operation};
 use roll::Roll;
 
 // All the examples hold.
-#[tactic(auto, using(crate::proofs::Computed::one_drawn_board, crate::proofs::Computed::three_lines, crate::proofs::Computed::sheet_lines))]
+#[tactic(auto, using(crate::proofs::Computed::all_examples))]
 pub fn worked_examples() -> u8
     ensures { WorkedExamples }
 {

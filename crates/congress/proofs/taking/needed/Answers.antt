@@ -1,4 +1,4 @@
-use Rattle.std.proofs.Common.{rules, ◌≡◌, length, sym, ap, ◌∙◌}
+use Rattle.std.proofs.Common.{rules, length, sym, ap, ◌∙◌}
 use Rattle.congress.proofs.Takes.{falling_count}
 use Rattle.congress.proofs.taking.needed.Goals as goal
 use Rattle.congress.specs.Requests.{sent}

@@ -1,4 +1,4 @@
-use Rattle.std.proofs.Common.{rules, ◌≡◌, List, ◌∷◌, [], ◌++◌, true, set, sym, ap, ◌∙◌, subst}
+use Rattle.std.proofs.Common.{rules, ◌≡◌, ◌∷◌, [], ◌++◌, true, set, sym, ap, ◌∙◌, subst}
 use Rattle.congress.proofs.Takes.{kept_enters}
 use Rattle.congress.proofs.state.Congress.enter.Goals as goal
 use Rattle.congress.specs.Kept.{kept}

@@ -1,12 +1,10 @@
-use Rattle.std.proofs.Common.{◌≡◌, ℕ, Ok, [], ◌∷◌, ◌++◌, sym, ap, ◌∙◌}
+use Rattle.std.proofs.Common.{ℕ, Ok, [], ◌∷◌, ◌++◌, ap, ◌∙◌}
 use Rattle.congress.proofs.Sent.{posting_push}
 use Rattle.congress.proofs.state.Congress.fall.Goals as goal
 use Rattle.congress.specs.Meaning.{state, with_post}
 use Rattle.congress.specs.Requests.{falling}
 use Rattle.congress.specs.Sending.{votes_of, reply_of}
 use Rattle.congress.specs.State.{State, World, scene, world, with_hall, posting}
-use Rattle.congress.specs.declared.outcomes.Report.{Report}
-use Rattle.congress.specs.declared.refusals.Refusal.{Refusal}
 
 pub returns : goal.returns
 returns c pages =

@@ -1,4 +1,4 @@
-use Rattle.std.proofs.Common.{◌≡◌, sym, ◌∙◌}
+use Rattle.std.proofs.Common.{sym, ◌∙◌}
 use Rattle.congress.proofs.state.Congress.fate.Goals as goal
 use Rattle.std.proofs.lemmas.Bool.{cond-true}
 

@@ -1,4 +1,4 @@
-use Rattle.std.proofs.Common.{rules, ◌≡◌, ℕ, true, set, sym, ap, ◌∙◌, subst}
+use Rattle.std.proofs.Common.{rules, ◌≡◌, true, set, sym, ap, ◌∙◌, subst}
 use Rattle.congress.proofs.Memory.{kept_counts, commit_counts}
 use Rattle.congress.proofs.state.Congress.vote_on.Goals as goal
 use Rattle.congress.specs.Kept.{kept}

@@ -1,7 +1,7 @@
-use Rattle.std.proofs.Common.{◌≡◌, Result, sym, subst}
+use Rattle.std.proofs.Common.{Result, sym, subst}
 use Rattle.congress.proofs.Refusing.{Leaves, turn_leaves}
 use Rattle.congress.proofs.state.Congress.work.Goals as goal
-use Rattle.congress.specs.Meaning.{state, with_post}
+use Rattle.congress.specs.Meaning.{with_post}
 use Rattle.congress.specs.State.{Scene, scene}
 use Rattle.congress.specs.declared.outcomes.Report.{Report}
 use Rattle.congress.specs.declared.refusals.Refusal.{Refusal}

@@ -1,5 +1,5 @@
-use Rattle.std.proofs.Common.{◌≡◌, sym, ap, ◌∙◌}
-use Rattle.congress.proofs.state.Congress.settle_as.Goals as goal
+use Rattle.std.proofs.Common.{sym, ap, ◌∙◌}
+use Rattle.congress.proofs.state.Congress.carry_out.Goals as goal
 use Rattle.congress.specs.Meaning.{with_post}
 use Rattle.congress.specs.Requests.{falling, recording, taken_as}
 use Rattle.congress.specs.State.{scene, sending}
