@@ -2,22 +2,20 @@
 // halls stand after them.
 #![tactic(auto)]
 
-mod account;
+mod halls;
 mod history;
 mod lines;
-mod making;
 mod telling;
 
-use account::print_account;
 use book::Book;
 use bridge::Bridge;
 use chess::Chess;
 use congress::Congress;
 use entries::Game;
+use halls::print_account;
 use history::history_of;
 use lines::{Script, read_script};
-use making::conduct;
-use order::Said;
+use order::{Said, conduct};
 use records::{Message, Request};
 use roll::Roll;
 use std::io;

@@ -36,6 +36,18 @@ fn print_order(rt: &impl Print, hall: u8, done: &[Part]) -> io::Result<()> {
     Ok(())
 }
 
+// All numbers of a hall's page.
+fn print_page<B: Book>(rt: &impl Print, hall: u8, book: &B) -> io::Result<()> {
+    print!(rt; "page:")?;
+    for place in 0..usize::MAX {
+        let Some(number) = book.number(hall, place) else {
+            break;
+        };
+        print!(rt; " {number}")?;
+    }
+    println!(rt; "")
+}
+
 fn print_hall<B: Book>(
     rt: &HostRuntime,
     at: Settings,
@@ -57,7 +69,11 @@ fn print_hall<B: Book>(
     let round = next_round(at.game, log.as_slice());
     println!(rt; "standings before round {round}:")?;
     let list = standings_of(heap, book, sheet, log.as_slice())?;
-    print_list(rt, at.game, list.as_slice())
+    print_list(rt, at.game, list.as_slice())?;
+    if at.pages {
+        print_page(rt, hall, book)?;
+    }
+    Ok(())
 }
 
 pub fn print_account<B: Book>(
