@@ -42,7 +42,22 @@ impl History {
         }
     }
 
+    // Notes the operations of a transaction.
+    fn note_issue(&mut self, said: Said, operations: [Operation; 8]) -> Result<(), AllocError> {
+        if let Said::Number(number) = said {
+            self.issued.insert(number, operations)?;
+        }
+        Ok(())
+    }
+
     // Notes a part that was done.
+    fn note_report(&mut self, said: Said) -> Result<(), AllocError> {
+        match said {
+            Said::Report(report) => self.note(report),
+            _ => Ok(()),
+        }
+    }
+
     fn note(&mut self, report: Report) -> Result<(), AllocError> {
         let Report {
             outcome,
@@ -65,16 +80,13 @@ impl History {
 
     // Takes what a call told.
     fn take(&mut self, call: Call, said: Said) -> Result<(), AllocError> {
-        match (call, said) {
-            (Call::Open { .. }, _) => {
+        match call {
+            Call::Open { .. } => {
                 self.issued.clear();
                 self.done.clear();
             }
-            (Call::Issue { operations, .. }, Said::Number(number)) => {
-                self.issued.insert(number, operations)?;
-            }
-            (_, Said::Report(report)) => self.note(report)?,
-            _ => {}
+            Call::Issue { operations, .. } => self.note_issue(said, operations)?,
+            _ => self.note_report(said)?,
         }
         Ok(())
     }
