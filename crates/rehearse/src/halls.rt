@@ -76,6 +76,7 @@ fn print_hall<B: Book>(
     Ok(())
 }
 
+// A part for each hall, after an empty line; none before a congress is opened.
 pub fn print_account<B: Book>(
     rt: &HostRuntime,
     at: Settings,
@@ -84,9 +85,7 @@ pub fn print_account<B: Book>(
     done: &[Part],
 ) -> io::Result<()> {
     for hall in 0..halls {
-        if hall > 0 {
-            println!(rt; "")?;
-        }
+        println!(rt; "")?;
         print_hall(rt, at, hall, book, done)?;
     }
     Ok(())

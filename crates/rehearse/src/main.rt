@@ -41,7 +41,6 @@ fn rehearse_over<B: Book + Drop>(
         told.as_mut_slice(),
     );
     print_told(rt, script, told.as_slice())?;
-    println!(rt; "")?;
     let done = history_of(heap, calls, told.as_slice())?;
     print_account(rt, script.at, congress.halls(), &roll, done.as_slice())
 }
