@@ -23,11 +23,7 @@ pub struct Script {
 
 impl Script {
     // Notes what a line says.
-    fn take(
-        &mut self,
-        line: usize,
-        read: Result<Option<Line>, Misread>,
-    ) -> Result<(), AllocError> {
+    fn take(&mut self, line: usize, read: Result<Option<Line>, Misread>) -> Result<(), AllocError> {
         match read {
             Ok(None) => {}
             Ok(Some(said)) => {

@@ -10,7 +10,7 @@ mod telling;
 use book::Book;
 use bridge::Bridge;
 use chess::Chess;
-use congress::Congress;
+use congress::{Congress, Refusal};
 use entries::Game;
 use halls::print_account;
 use history::history_of;
@@ -18,9 +18,31 @@ use lines::{Script, read_script};
 use order::{Said, conduct};
 use records::{Message, Request};
 use roll::Roll;
+use std::alloc::{AllocError, Global};
 use std::io;
 use std::io::Read;
 use telling::print_told;
+
+// What each of the calls tells, made in turn at a new congress, and how many halls are open then.
+fn told_by<B: Book>(
+    heap: Global,
+    script: &Script,
+    roll: &mut Roll<B>,
+) -> Result<(Vec<Result<Said, Refusal>>, u8), AllocError> {
+    let calls = script.calls.as_slice();
+    let mut congress = Congress::new();
+    let mut post = vec![in heap; Message::Request(Request::default()); script.at.places as usize]?;
+    let mut told = vec![in heap; Ok(Said::Nothing); calls.len()]?;
+    conduct(
+        &mut congress,
+        roll,
+        post.as_mut_slice(),
+        calls,
+        told.as_mut_slice(),
+    )
+    .unwrap();
+    Ok((told, congress.halls()))
+}
 
 // Makes the calls of a script over a roll, and prints what they tell and the account.
 fn rehearse_over<B: Book + Drop>(
@@ -29,20 +51,10 @@ fn rehearse_over<B: Book + Drop>(
     mut roll: Roll<B>,
 ) -> io::Result<()> {
     let heap = rt.alloc();
-    let calls = script.calls.as_slice();
-    let mut congress = Congress::new();
-    let mut post = vec![in heap; Message::Request(Request::default()); script.at.places as usize]?;
-    let mut told = vec![in heap; Ok(Said::Nothing); calls.len()]?;
-    let _ = conduct(
-        &mut congress,
-        &mut roll,
-        post.as_mut_slice(),
-        calls,
-        told.as_mut_slice(),
-    );
+    let (told, halls) = told_by(heap, script, &mut roll)?;
     print_told(rt, script, told.as_slice())?;
-    let done = history_of(heap, calls, told.as_slice())?;
-    print_account(rt, script.at, congress.halls(), &roll, done.as_slice())
+    let done = history_of(heap, script.calls.as_slice(), told.as_slice())?;
+    print_account(rt, script.at, halls, &roll, done.as_slice())
 }
 
 // Makes the calls of a script over a roll on the book that `new` makes. The book is made here and not by the caller, since

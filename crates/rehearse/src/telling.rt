@@ -4,8 +4,7 @@ use congress::{Outcome, Refusal, Report};
 use order::{Call, Said};
 use records::Answer;
 use script::Misread;
-use std::fmt;
-use std::io;
+use std::{fmt, io};
 
 // The first word of a call's line in the script.
 fn call_word(call: &Call) -> &'static str {
@@ -75,7 +74,10 @@ impl fmt::Display for Told {
             place,
             value,
         } = answer;
-        write!(f, " layer={layer} cause={cause} place={place} value={value}")
+        write!(
+            f,
+            " layer={layer} cause={cause} place={place} value={value}"
+        )
     }
 }
 
