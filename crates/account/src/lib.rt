@@ -9,10 +9,12 @@ use bridge::Bridge;
 use chess::Chess;
 use entries::Game;
 use printing::print_account;
+pub use printing::print_list;
 use roll::Roll;
 use scoring::{headings_of, score, standings_of};
 use std::io;
 use std::io::Read;
+pub use words::Entry;
 
 // Scores a sheet in a book, and prints the account.
 fn score_in<B: Book + Drop>(rt: &HostRuntime, mut book: B, text: &[u8]) -> io::Result<()> {

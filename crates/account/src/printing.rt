@@ -34,8 +34,8 @@ fn print_part<R: Print, T: Display + Drop, F: Fn(&LogEntry) -> Option<T> + Drop>
     print_none_if(rt, empty)
 }
 
-fn print_standings(rt: &impl Print, game: Game, round: i32, list: &[Standing]) -> io::Result<()> {
-    println!(rt; "Standings before round {round}")?;
+// The parties with their points and places, a line for each.
+pub fn print_list(rt: &impl Print, game: Game, list: &[Standing]) -> io::Result<()> {
     for standing in list {
         let place = place_of(standing.points, list);
         let party = Party(game, standing.party);
@@ -43,6 +43,11 @@ fn print_standings(rt: &impl Print, game: Game, round: i32, list: &[Standing]) -
         println!(rt; "{place}. {party}: {points}")?;
     }
     print_none_if(rt, list.is_empty())
+}
+
+fn print_standings(rt: &impl Print, game: Game, round: i32, list: &[Standing]) -> io::Result<()> {
+    println!(rt; "Standings before round {round}")?;
+    print_list(rt, game, list)
 }
 
 fn refusal(entry: &LogEntry) -> Option<Reason> {

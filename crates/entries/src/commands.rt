@@ -37,7 +37,7 @@ pub enum Opening {
 }
 
 // An Option and no TryFrom, here and in `opening_of` and `game_of`: what was expected depends on where the word stands.
-fn command_of(word: &[u8]) -> Option<Command>
+pub fn command_of(word: &[u8]) -> Option<Command>
     ensures { result ≡ entry_word word.now }
 {
     match word {

@@ -12,28 +12,28 @@ use crate::{Expected, Field, Game, Misread};
 use chess::Outcome;
 
 // How far below zero a whole number goes.
-const WHOLE_BELOW_ZERO: u32 = 2147483648;
+const WHOLE_BELOW_ZERO: u64 = 2147483648;
 
 // The number that the digits of a word stand for, where it is at most `limit`. Past the limit no digit brings a value
 // back, so the loop stops there, long before an overflow.
-fn number_to(limit: u32, word: &[u8]) -> Option<u32>
+pub fn number_to(limit: u64, word: &[u8]) -> Option<u64>
     ensures value { result ≡ number limit word.now }
     ensures within { IfSome result (λ n. n ≤ limit) }
 {
     if word.is_empty() {
         return None;
     }
-    let mut value: u64 = 0;
+    let mut value: u128 = 0;
     for byte in word {
         if !byte.is_ascii_digit() {
             return None;
         }
-        value = value * 10 + u64::from(*byte - b'0');
-        if value > u64::from(limit) {
+        value = value * 10 + u128::from(*byte - b'0');
+        if value > u128::from(limit) {
             return None;
         }
     }
-    Some(value as u32)
+    Some(value as u64)
 }
 
 // The number that the digits of a word stand for, with a minus sign in front where it is written.
@@ -43,9 +43,9 @@ fn whole_number(word: &[u8]) -> Option<i32>
     match word {
         [b'-', digits @ ..] => {
             let n = number_to(WHOLE_BELOW_ZERO, digits)?;
-            Some(-i64::from(n) as i32)
+            Some(-(n as i64) as i32)
         }
-        _ => Some(number_to(i32::MAX as u32, word)? as i32),
+        _ => Some(number_to(i32::MAX as u64, word)? as i32),
     }
 }
 
@@ -70,7 +70,7 @@ impl Value for u8 {
     ghost number = { pos };
 
     fn of(word: &[u8]) -> Option<u8> {
-        Some(number_to(u32::from(u8::MAX), word)? as u8)
+        Some(number_to(u64::from(u8::MAX), word)? as u8)
     }
 }
 
@@ -82,7 +82,7 @@ impl Value for u16 {
     ghost number = { pos };
 
     fn of(word: &[u8]) -> Option<u16> {
-        Some(number_to(u32::from(u16::MAX), word)? as u16)
+        Some(number_to(u64::from(u16::MAX), word)? as u16)
     }
 }
 
@@ -94,7 +94,7 @@ impl Value for u32 {
     ghost number = { pos };
 
     fn of(word: &[u8]) -> Option<u32> {
-        number_to(u32::MAX, word)
+        Some(number_to(u64::from(u32::MAX), word)? as u32)
     }
 }
 
@@ -122,7 +122,7 @@ impl Value for Count {
     ghost number = { λ count. count.0 };
 
     fn of(word: &[u8]) -> Option<Count> {
-        Some(Count(number_to(i32::MAX as u32, word)? as i32))
+        Some(Count(number_to(i32::MAX as u64, word)? as i32))
     }
 }
 

@@ -9,12 +9,12 @@ mod fields;
 mod words;
 
 use commands::line_after;
-pub use commands::{close_kind, total_kind};
+pub use commands::{Command, close_kind, command_of, total_kind};
+pub use fields::{Count, Value, game_of, number_to};
 use records::Operation;
 use std::fmt;
 use thiserror::Error;
-use words::Words;
-pub use words::{Lines, first_line};
+pub use words::{Lines, Word, Words, first_line};
 
 // The game of a sheet.
 #[derive(Clone, Copy, Debug, Default, PartialEq, Eq, Hash)]
