@@ -6,8 +6,7 @@ use crate::operations::{self, Game, Signature};
 use crate::words::{self, Expected, Unreadable, Words, EIGHT_BITS, THIRTY_TWO_BITS};
 
 const FIRST_WORD: Expected = Expected::Phrase("hall, game, chief, as or an entry");
-const ENTRY_NOT_HEADING: Expected =
-    Expected::Phrase("an entry or as, since headings come first");
+const ENTRY_NOT_HEADING: Expected = Expected::Phrase("an entry or as, since headings come first");
 
 pub struct Sheet {
     pub headings: Headings,

@@ -3,7 +3,7 @@
 
 use crate::book::Operation;
 use crate::words::{
-    Expected, Unreadable, Words, NEVER_NEGATIVE, SIGNED, SIXTEEN_BITS, THIRTY_TWO_BITS, EIGHT_BITS,
+    Expected, Unreadable, Words, EIGHT_BITS, NEVER_NEGATIVE, SIGNED, SIXTEEN_BITS, THIRTY_TWO_BITS,
 };
 use crate::{bridge, chess, roll};
 
@@ -143,7 +143,11 @@ fn kind_with_a_alone(name: &[u8], game: Game) -> Option<u8> {
 }
 
 /// What follows the kind, and in a script the grant and token, of an operation of any kind.
-pub fn read_fields(words: &mut Words, kind: u8, signature: Signature) -> Result<Operation, Unreadable> {
+pub fn read_fields(
+    words: &mut Words,
+    kind: u8,
+    signature: Signature,
+) -> Result<Operation, Unreadable> {
     Ok(Operation {
         kind,
         a: words.number(SIXTEEN_BITS)?,
