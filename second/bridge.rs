@@ -3,11 +3,17 @@
 
 use std::cmp::Ordering;
 
-use crate::book::{self, Answer, Fault, News, Operation, FIRST_ROUND, LAST_ROUND_TO_CLOSE};
+use crate::book::{self, Answer, Fault, Keys, News, Operation, FIRST_ROUND, LAST_ROUND_TO_CLOSE};
+
+const LAYER: u8 = 2;
 
 const DEALS: usize = 16;
+const LAST_DEAL: u16 = 15;
 /// How many pairs sit North-South, and how many East-West.
 const PAIRS: usize = 8;
+
+/// Each deal has the key of its number, and the totals have this one.
+const TOTALS_KEY: u16 = 32;
 
 #[derive(Clone, Copy)]
 #[repr(u8)]
@@ -44,6 +50,10 @@ pub enum Cause {
 }
 
 impl book::Cause for Cause {
+    fn layer(&self) -> u8 {
+        LAYER
+    }
+
     fn number(&self) -> u8 {
         *self as u8
     }
@@ -108,6 +118,19 @@ pub enum Done {
 }
 
 impl book::Done<Party> for Done {
+    fn layer(&self) -> u8 {
+        LAYER
+    }
+
+    fn value(&self) -> i32 {
+        match *self {
+            Self::Scored { replaced, .. } => replaced.into(),
+            Self::Line(score) => score.number(),
+            Self::Closed { next_round } => next_round.into(),
+            Self::Total(MatchPoints(total)) => total as i32,
+        }
+    }
+
     fn news(&self) -> Option<News<Party>> {
         match *self {
             Self::Scored {
@@ -159,6 +182,15 @@ impl book::Page for Page {
     type Cause = Cause;
     const NO_SUCH_HALL: Cause = Cause::NoSuchHall;
 
+    fn keys(operation: Operation) -> Keys {
+        match Kind::from_number(operation.kind) {
+            Some(Kind::Score | Kind::Line) => Keys::of_part(0, operation.a, LAST_DEAL),
+            Some(Kind::Close) => Keys::of((0..=LAST_DEAL).chain([TOTALS_KEY])),
+            Some(Kind::Total) => Keys::of([TOTALS_KEY]),
+            None => Keys::default(),
+        }
+    }
+
     fn run(&mut self, operation: Operation) -> Answer<Self> {
         let Operation {
             kind, a, b, c, d, ..
@@ -173,12 +205,27 @@ impl book::Page for Page {
         .map_err(|cause| Fault { cause, place: a })
     }
 
+    fn numbers(&self) -> Vec<i64> {
+        let mut numbers = vec![self.round.into()];
+        let lines = self.deals.iter().flatten();
+        numbers.extend(lines.flat_map(line_numbers));
+        let totals = self.north_south_totals.iter().chain(&self.east_west_totals);
+        numbers.extend(totals.map(|total| i64::from(total.0)));
+        numbers
+    }
+
     fn points(&self, party: Party) -> MatchPoints {
         match party {
             Party::NorthSouth(pair) => self.north_south_totals[pair.index()],
             Party::EastWest(pair) => self.east_west_totals[pair.index()],
         }
     }
+}
+
+fn line_numbers(line: &Option<Line>) -> [i64; 3] {
+    line.map_or([0; 3], |line| {
+        [1, line.east_west.0.into(), line.score.0.into()]
+    })
 }
 
 /// The order of the checks in each operation is the order of faults in the rules.

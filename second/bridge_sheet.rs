@@ -3,7 +3,8 @@
 
 use std::ops::RangeInclusive;
 
-use crate::sheet::{kind, Entry, Game, Operation, Outcome, RawLine, Rota, Sheet};
+use crate::kind;
+use crate::sheet::{Entry, Game, Operation, Outcome, RawLine, Rota, Sheet};
 
 const SEED: u64 = 0xB41D_6E5E_ED00_0C4F;
 const ROUNDS: u16 = 6;

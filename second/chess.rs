@@ -1,10 +1,16 @@
 //! The book of chess: its kinds, causes and results, and what an operation does to a hall's page
 //! (docs/RULES.md, "Chess").
 
-use crate::book::{self, Answer, Fault, News, Operation, FIRST_ROUND, LAST_ROUND_TO_CLOSE};
+use crate::book::{self, Answer, Fault, Keys, News, Operation, FIRST_ROUND, LAST_ROUND_TO_CLOSE};
+
+const LAYER: u8 = 1;
 
 const BOARDS: usize = 32;
+const LAST_BOARD: u16 = 31;
 const PLAYERS: usize = 64;
+
+/// Each board has the key of its number, and the totals have this one.
+const TOTALS_KEY: u16 = 32;
 
 #[derive(Clone, Copy)]
 #[repr(u8)]
@@ -49,6 +55,10 @@ pub enum Cause {
 }
 
 impl book::Cause for Cause {
+    fn layer(&self) -> u8 {
+        LAYER
+    }
+
     fn number(&self) -> u8 {
         *self as u8
     }
@@ -118,6 +128,19 @@ pub enum Done {
 }
 
 impl book::Done<Player> for Done {
+    fn layer(&self) -> u8 {
+        LAYER
+    }
+
+    fn value(&self) -> i32 {
+        match *self {
+            Self::Seated { .. } => 0,
+            Self::Entered { before: result } | Self::Shown(result) => number_of(result),
+            Self::Closed { next_round } => next_round.into(),
+            Self::Total(HalfPoints(total)) => total as i32,
+        }
+    }
+
     fn news(&self) -> Option<News<Player>> {
         match *self {
             Self::Seated { white, black } => Some(News::TookPart([white, black])),
@@ -125,6 +148,11 @@ impl book::Done<Player> for Done {
             Self::Entered { .. } | Self::Shown(_) | Self::Total(_) => None,
         }
     }
+}
+
+/// The number of a result, or 0 for none.
+fn number_of(result: Option<Outcome>) -> i32 {
+    result.map_or(0, Outcome::number)
 }
 
 #[derive(Clone, Copy)]
@@ -158,6 +186,17 @@ impl book::Page for Page {
     type Cause = Cause;
     const NO_SUCH_HALL: Cause = Cause::NoSuchHall;
 
+    fn keys(operation: Operation) -> Keys {
+        match Kind::from_number(operation.kind) {
+            Some(Kind::Seat | Kind::Enter | Kind::Show) => {
+                Keys::of_part(0, operation.a, LAST_BOARD)
+            }
+            Some(Kind::Close) => Keys::of((0..=LAST_BOARD).chain([TOTALS_KEY])),
+            Some(Kind::Total) => Keys::of([TOTALS_KEY]),
+            None => Keys::default(),
+        }
+    }
+
     fn run(&mut self, operation: Operation) -> Answer<Self> {
         let Operation { kind, a, b, c, .. } = operation;
         match Kind::from_number(kind) {
@@ -171,9 +210,23 @@ impl book::Page for Page {
         .map_err(|cause| Fault { cause, place: a })
     }
 
+    fn numbers(&self) -> Vec<i64> {
+        let mut numbers = vec![self.round.into()];
+        numbers.extend(self.boards.iter().flat_map(board_numbers));
+        numbers.extend(self.totals.iter().map(|total| i64::from(total.0)));
+        numbers
+    }
+
     fn points(&self, player: Player) -> HalfPoints {
         self.totals[player.index()]
     }
+}
+
+fn board_numbers(board: &Option<Game>) -> [i64; 4] {
+    board.map_or([0; 4], |game| {
+        let result = number_of(game.outcome).into();
+        [1, game.white.0.into(), game.black.0.into(), result]
+    })
 }
 
 /// The order of the checks in each operation is the order of faults in the rules.

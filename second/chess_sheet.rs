@@ -3,7 +3,8 @@
 
 use std::ops::RangeInclusive;
 
-use crate::sheet::{kind, Entry, Game, Operation, Outcome, RawLine, Rota, Sheet};
+use crate::kind;
+use crate::sheet::{Entry, Game, Operation, Outcome, RawLine, Rota, Sheet};
 
 const SEED: u64 = 0x5EED_C4E5_5B00_4D32;
 const FULL_ROUNDS: u16 = 5;

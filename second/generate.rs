@@ -3,6 +3,7 @@
 mod bridge_sheet;
 mod chance;
 mod chess_sheet;
+mod kind;
 mod sheet;
 
 use std::io::{self, Write};

@@ -1,77 +1,52 @@
-//! Makes a morning of calls at a congress and prints their account, as docs/RULES.md says. It keeps
-//! only what these calls read: nothing waits here, and the post has no messages but requests.
+//! Makes a morning of calls at a congress and prints their account, as docs/RULES.md says.
+// The modules are shared with other programs, which need more of them.
+#![allow(dead_code)]
+
+mod book;
+mod congress;
+mod messages;
 
 use std::fmt::{self, Display, Formatter};
 use std::io::{self, Write};
 
-const HALLS: usize = 8;
-const CONSOLES: usize = 16;
-const LAST_SEQUENCE: usize = 1_048_576;
-const LAST_STAMP: u64 = 1 << 48;
-const PLACES_USED: usize = 1_024;
+use book::Operation;
+use congress::{Congress, Refusal};
+use messages::{Halls, Message, Reply, Request, Transaction, Vote, LAST_STAMP};
+
 const PLACES_LENT: usize = 6;
 
-/// A set of halls, bit h for hall h.
-#[derive(Clone, Copy, Default)]
-struct Halls(u8);
-
-impl Halls {
-    fn ascending(self) -> impl Iterator<Item = usize> {
-        (0..HALLS).filter(move |hall| self.0 >> hall & 1 == 1)
+impl Display for Message {
+    fn fmt(&self, out: &mut Formatter) -> fmt::Result {
+        match self {
+            Self::Request(request) => request.fmt(out),
+            Self::Vote(Vote {
+                transaction,
+                from,
+                to,
+                ..
+            }) => write!(out, "vote {transaction} from hall {from} to hall {to}"),
+            Self::Reply(Reply {
+                transaction, from, ..
+            }) => write!(out, "reply {transaction} from hall {from}"),
+        }
     }
-
-    fn count(self) -> usize {
-        self.ascending().count()
-    }
-}
-
-impl Display for Halls {
-    fn fmt(&self, f: &mut Formatter) -> fmt::Result {
-        let numbers: Vec<String> = self.ascending().map(|hall| hall.to_string()).collect();
-        f.write_str(&numbers.join(" "))
-    }
-}
-
-/// As much of an operation as the account tells.
-#[derive(Clone, Copy, Default)]
-struct Operation {
-    kind: u8,
-    a: usize,
-}
-
-#[derive(Clone, Copy, Default)]
-struct Request {
-    transaction: usize,
-    hall: usize,
-    class: u8,
-    halls: Halls,
-    high: u64,
-    operation: Operation,
 }
 
 impl Display for Request {
-    fn fmt(&self, f: &mut Formatter) -> fmt::Result {
-        write!(f, "request {} to hall {}", self.transaction, self.hall)?;
-        write!(f, ", class {}, halls {}", self.class, self.halls)?;
-        write!(f, ", high {}", self.high)?;
-        write!(f, ": kind {}, a {}", self.operation.kind, self.operation.a)
+    fn fmt(&self, out: &mut Formatter) -> fmt::Result {
+        write!(out, "request {} to hall {}", self.transaction, self.hall)?;
+        write!(out, ", class {}, halls {}", self.class.number(), self.halls)?;
+        write!(out, ", high {}", self.high)?;
+        write!(
+            out,
+            ": kind {}, a {}",
+            self.operation.kind, self.operation.a
+        )
     }
 }
 
-#[derive(Clone, Copy)]
-#[repr(u8)]
-enum Refusal {
-    NotThere = 1,
-    TransactionOpen = 2,
-    HallsDoNotFit = 3,
-    SequencesUsedUp = 4,
-    PastTheLastStamp = 5,
-    NoRoomInPost = 6,
-    PostTooShort = 9,
-}
-
 impl Display for Refusal {
-    fn fmt(&self, f: &mut Formatter) -> fmt::Result {
+    fn fmt(&self, out: &mut Formatter) -> fmt::Result {
         let words = match self {
             Self::NotThere => "not there",
             Self::TransactionOpen => "the console has an open transaction",
@@ -79,113 +54,11 @@ impl Display for Refusal {
             Self::SequencesUsedUp => "the console's sequences are used up",
             Self::PastTheLastStamp => "past the last stamp",
             Self::NoRoomInPost => "no room in the post",
+            Self::QueueFull => "no room in the queue",
+            Self::NothingMayRun => "nothing may run",
             Self::PostTooShort => "the post is too short",
         };
-        write!(f, "refused with {}, {words}", *self as u8)
-    }
-}
-
-#[derive(Clone, Copy, Default)]
-struct Console {
-    has_open_transaction: bool,
-    sequence: usize,
-    high: u64,
-}
-
-/// A congress not yet opened is the default one. There are as many open halls as clocks.
-#[derive(Default)]
-struct Congress {
-    clocks: Vec<u64>,
-    consoles: [Console; CONSOLES],
-    messages: usize,
-}
-
-/// The order of the checks in each call is the order of refusals in the rules.
-impl Congress {
-    fn open(&mut self, halls: usize) -> Result<(), Refusal> {
-        refuse_if(!(1..=HALLS).contains(&halls), Refusal::HallsDoNotFit)?;
-        *self = Self {
-            clocks: vec![0; halls],
-            ..Self::default()
-        };
-        Ok(())
-    }
-
-    fn issue(
-        &mut self,
-        post: &mut [Request],
-        console: usize,
-        class: u8,
-        halls: Halls,
-        operations: &[Operation; HALLS],
-    ) -> Result<usize, Refusal> {
-        self.check_length(post)?;
-        let room = post.len().min(PLACES_USED) - self.messages;
-        let fit = self.fit(class, halls);
-        let asking = self.consoles.get_mut(console).ok_or(Refusal::NotThere)?;
-        refuse_if(asking.has_open_transaction, Refusal::TransactionOpen)?;
-        refuse_if(!fit, Refusal::HallsDoNotFit)?;
-        refuse_if(asking.sequence >= LAST_SEQUENCE, Refusal::SequencesUsedUp)?;
-        refuse_if(halls.count() > room, Refusal::NoRoomInPost)?;
-
-        asking.sequence += 1;
-        asking.has_open_transaction = true;
-        let transaction = asking.sequence * CONSOLES + console;
-        for hall in halls.ascending() {
-            post[self.messages] = Request {
-                transaction,
-                hall,
-                class,
-                halls,
-                high: asking.high,
-                operation: operations[hall],
-            };
-            self.messages += 1;
-        }
-        Ok(transaction)
-    }
-
-    fn clock(&mut self, hall: usize, time: u64) -> Result<(), Refusal> {
-        let clock = self.clocks.get_mut(hall).ok_or(Refusal::NotThere)?;
-        refuse_if(time > LAST_STAMP, Refusal::PastTheLastStamp)?;
-        *clock = time;
-        Ok(())
-    }
-
-    /// The place after the last message left keeps what it had.
-    fn drop(&mut self, post: &mut [Request], place: usize) -> Result<(), Refusal> {
-        self.check_length(post)?;
-        refuse_if(place >= self.messages, Refusal::NotThere)?;
-        self.messages -= 1;
-        post[place] = post[self.messages];
-        Ok(())
-    }
-
-    fn find(&self, post: &[Request], transaction: usize) -> Result<Option<usize>, Refusal> {
-        self.check_length(post)?;
-        let mut messages = post[..self.messages].iter();
-        Ok(messages.position(|request| request.transaction == transaction))
-    }
-
-    fn check_length(&self, post: &[Request]) -> Result<(), Refusal> {
-        refuse_if(post.len() < self.messages, Refusal::PostTooShort)
-    }
-
-    fn fit(&self, class: u8, halls: Halls) -> bool {
-        let as_many_as_asked = match class {
-            1 => halls.count() == 1,
-            2 | 3 => halls.count() >= 2,
-            _ => false,
-        };
-        as_many_as_asked && halls.ascending().all(|hall| hall < self.clocks.len())
-    }
-}
-
-fn refuse_if(condition: bool, refusal: Refusal) -> Result<(), Refusal> {
-    if condition {
-        Err(refusal)
-    } else {
-        Ok(())
+        write!(out, "refused with {}, {words}", self.number())
     }
 }
 
@@ -193,7 +66,7 @@ fn refuse_if(condition: bool, refusal: Refusal) -> Result<(), Refusal> {
 #[derive(Default)]
 struct Morning {
     congress: Congress,
-    post: [Request; PLACES_LENT],
+    post: [Message; PLACES_LENT],
     account: String,
 }
 
@@ -204,7 +77,7 @@ impl Morning {
     }
 
     fn issue(&mut self, console: usize, class: u8, halls: Halls) {
-        let operations = std::array::from_fn(|hall| Operation { kind: 16, a: hall });
+        let operations = std::array::from_fn(operation_for);
         let issued = (self.congress).issue(&mut self.post, console, class, halls, &operations);
         let said = issued.map(|transaction| format!("transaction {transaction}"));
         let what = format!("issue at console {console}, class {class}, halls {halls}");
@@ -221,8 +94,9 @@ impl Morning {
         self.tell(format!("drop the message at {place}"), said);
     }
 
-    fn find(&mut self, transaction: usize) {
-        let said = (self.congress.find(&self.post, transaction)).map(|found| match found {
+    fn find(&mut self, transaction: u32) {
+        let found = self.congress.find(&self.post, Transaction(transaction));
+        let said = found.map(|place| match place {
             Some(place) => format!("at {place}"),
             None => "not in the post".to_string(),
         });
@@ -236,9 +110,19 @@ impl Morning {
 
     fn tell_post(&mut self) {
         let messages = &self.post[..self.congress.messages];
-        for (place, request) in messages.iter().enumerate() {
-            self.account += &format!("{place}. {request}\n");
+        for (place, message) in messages.iter().enumerate() {
+            self.account += &format!("{place}. {message}\n");
         }
+    }
+}
+
+fn operation_for(hall: usize) -> Operation {
+    Operation {
+        kind: 16,
+        a: hall as u16,
+        b: 1,
+        c: 2,
+        ..Operation::default()
     }
 }
 

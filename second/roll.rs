@@ -3,9 +3,14 @@
 
 use std::num::NonZeroU32;
 
-use crate::book::{self, Answer, Fault, News, Operation};
+use crate::book::{self, Answer, Fault, Keys, News, Operation};
+
+const LAYER: u8 = 3;
 
 const ENTRIES: usize = 16;
+const LAST_ENTRY: u16 = 15;
+/// Each entry has the key that is this and its number together.
+const ENTRY_KEYS: u16 = 48;
 const CHIEF: u8 = 0;
 
 #[derive(Clone, Copy)]
@@ -45,6 +50,17 @@ pub enum Done {
     Read { is_filled: bool },
 }
 
+impl Done {
+    fn value(&self) -> i32 {
+        let (Self::Appointed {
+            in_place_of_another: filled,
+        }
+        | Self::Removed { was_filled: filled }
+        | Self::Read { is_filled: filled }) = *self;
+        filled.into()
+    }
+}
+
 /// What is the roll's own, or comes unaltered from the book below.
 pub enum Layered<Own, Below> {
     Own(Own),
@@ -52,6 +68,13 @@ pub enum Layered<Own, Below> {
 }
 
 impl<Below: book::Cause> book::Cause for Layered<Cause, Below> {
+    fn layer(&self) -> u8 {
+        match self {
+            Self::Own(_) => LAYER,
+            Self::Below(cause) => cause.layer(),
+        }
+    }
+
     fn number(&self) -> u8 {
         match self {
             Self::Own(cause) => *cause as u8,
@@ -61,6 +84,20 @@ impl<Below: book::Cause> book::Cause for Layered<Cause, Below> {
 }
 
 impl<Party, Below: book::Done<Party>> book::Done<Party> for Layered<Done, Below> {
+    fn layer(&self) -> u8 {
+        match self {
+            Self::Own(_) => LAYER,
+            Self::Below(done) => done.layer(),
+        }
+    }
+
+    fn value(&self) -> i32 {
+        match self {
+            Self::Own(done) => done.value(),
+            Self::Below(done) => done.value(),
+        }
+    }
+
     fn news(&self) -> Option<News<Party>> {
         match self {
             Self::Own(_) => None,
@@ -94,6 +131,15 @@ impl<Below: book::Page> book::Page for Page<Below> {
     type Cause = Layered<Cause, Below::Cause>;
     const NO_SUCH_HALL: Self::Cause = Layered::Own(Cause::NoSuchHall);
 
+    fn keys(operation: Operation) -> Keys {
+        let of_entry = |number| Keys::of_part(ENTRY_KEYS, number, LAST_ENTRY);
+        let asked = match Kind::from_number(operation.kind) {
+            Some(_) => of_entry(operation.a),
+            None => Below::keys(operation),
+        };
+        of_entry(operation.grant.into()).and(asked)
+    }
+
     fn run(&mut self, operation: Operation) -> Answer<Self> {
         if !self.stands(operation.grant, operation.token) {
             let fault = grant_fault(operation.grant, Cause::GrantDoesNotStand);
@@ -110,6 +156,13 @@ impl<Below: book::Page> book::Page for Page<Below> {
                 .map(Layered::Below)
                 .map_err(|fault| fault.map(Layered::Below)),
         }
+    }
+
+    fn numbers(&self) -> Vec<i64> {
+        let token = |entry: &Option<Token>| entry.map_or(0, |token| token.get().into());
+        let mut numbers: Vec<i64> = self.entries.iter().map(token).collect();
+        numbers.extend(self.below.numbers());
+        numbers
     }
 
     fn points(&self, party: Self::Party) -> Self::Points {

@@ -1,19 +1,26 @@
 //! Runs a scoresheet from standard input through a new book and prints its account, as
 //! docs/RULES.md says.
+// The modules are shared with other programs, which need more of them.
+#![allow(dead_code)]
 
 mod account;
 mod book;
 mod bridge;
 mod chess;
 mod lines;
+mod operations;
 mod roll;
+mod standings;
+mod wording;
+mod words;
 
-use std::collections::BTreeSet;
 use std::io::{self, Read, Write};
 
-use account::{Account, Event, Record, Standing};
-use book::{Book, Done, News, Page, FIRST_ROUND};
-use lines::{Game, Line, Sheet};
+use account::{Account, Event, Record};
+use book::{Book, Page};
+use lines::{Line, Sheet};
+use operations::Game;
+use standings::Progress;
 
 fn main() {
     let mut input = Vec::new();
@@ -41,19 +48,17 @@ fn account_of_game(page: impl Page, sheet: Sheet) -> String {
 fn run<P: Page>(page: P, sheet: Sheet) -> Account<P> {
     let hall = sheet.headings.hall;
     let mut book = Book::new(page);
-    let mut round = FIRST_ROUND;
-    let mut parties = BTreeSet::new();
+    let mut progress = Progress::default();
     let mut records = Vec::new();
     for Line { number, content } in sheet.lines {
         let event = match content {
-            Ok(operation) => Event::Answered(operation, book.run(hall, operation)),
+            Ok(operation) => {
+                let answer = book.run(hall, operation);
+                progress.note(&answer);
+                Event::Answered(operation, answer)
+            }
             Err(unreadable) => Event::NotRead(unreadable),
         };
-        match news(&event) {
-            Some(News::TookPart(both)) => parties.extend(both),
-            Some(News::RoundBegins(next_round)) => round = next_round,
-            None => {}
-        }
         records.push(Record {
             line: number,
             event,
@@ -62,27 +67,14 @@ fn run<P: Page>(page: P, sheet: Sheet) -> Account<P> {
     Account {
         game: sheet.headings.game,
         hall,
-        round,
+        round: progress.round,
         records,
-        standings: standings(&book, hall, parties),
-    }
-}
-
-fn news<P: Page>(event: &Event<P>) -> Option<News<P::Party>> {
-    match event {
-        Event::Answered(_, Ok(done)) => done.news(),
-        Event::Answered(_, Err(_)) | Event::NotRead(_) => None,
+        ranking: ranking(&progress, &book, hall),
     }
 }
 
 /// No party is left out: a hall that has no page has no parties either.
-fn standings<P: Page>(book: &Book<P>, hall: u8, parties: BTreeSet<P::Party>) -> Vec<Standing<P>> {
-    let Some(page) = book.page(hall) else {
-        return Vec::new();
-    };
-    let standing = |party| Standing {
-        party,
-        points: page.points(party),
-    };
-    parties.into_iter().map(standing).collect()
+fn ranking<P: Page>(progress: &Progress<P>, book: &Book<P>, hall: u8) -> Vec<String> {
+    let page = book.page(hall);
+    page.map_or(Vec::new(), |page| progress.ranking(page))
 }

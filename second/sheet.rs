@@ -2,6 +2,7 @@
 //! lets them be written, and lines that are damaged on purpose.
 
 use crate::chance::Chance;
+use crate::kind;
 
 pub type Word = Vec<u8>;
 
@@ -30,22 +31,6 @@ const BLANKS_AROUND: [&[u8]; 5] = [b" ", b"\t", b"\r", b"   ", b" \t\r"];
 
 /// Numbers for the fields that an operation does not look at.
 const IDLE_NUMBERS: [u16; 5] = [0, 0, 0, 1, 65535];
-
-/// The kinds of operation.
-pub mod kind {
-    pub const APPOINT: u8 = 1;
-    pub const REMOVE: u8 = 2;
-    pub const DEPUTY: u8 = 3;
-    pub const SEAT: u8 = 16;
-    pub const RESULT: u8 = 17;
-    pub const SHOW: u8 = 18;
-    pub const CLOSE_OF_CHESS: u8 = 19;
-    pub const TOTAL_OF_CHESS: u8 = 20;
-    pub const SCORE: u8 = 32;
-    pub const LINE: u8 = 33;
-    pub const CLOSE_OF_BRIDGE: u8 = 34;
-    pub const TOTAL_OF_BRIDGE: u8 = 35;
-}
 
 #[derive(Clone, Copy)]
 pub enum Game {

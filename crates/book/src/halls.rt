@@ -8,7 +8,7 @@ ghost use Rattle.book.specs.Halls.{page_at, all_own};
 use super::{Book, HALLS, NO_HALL};
 use records::{Answer, Below, Operation};
 
-// A book's part at one hall: the three questions of a book, on one page.
+// A book's part at one hall: the questions of a book, on one page.
 pub trait Hall {
     // what its operations mean on its page
     ghost model: { Model };

@@ -1,4 +1,5 @@
-// What a book is: three questions about operations on the pages of eight halls, and the law that every book obeys.
+// What a book is: three questions about operations on the pages of eight halls, the numbers of a page, and the law that every book
+// obeys.
 #![tactic(auto)]
 
 ghost use Rattle.std.specs.Prelude.{◌≡◌, ℕ, true, ◌==◌, bit_and};

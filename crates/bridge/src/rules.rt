@@ -65,7 +65,7 @@ impl Cell<DEALS, TOTALS> for Deal {
 
     ghost wide = { refl };
 
-    ghost some = { Prim.search rules };
+    ghost has_numbers = { Prim.search rules };
 
     ghost fits = { bridge_fits };
 

@@ -100,7 +100,7 @@ impl Cell<BOARDS, PLAYERS> for Board {
 
     ghost wide = { refl };
 
-    ghost some = { Prim.search rules };
+    ghost has_numbers = { Prim.search rules };
 
     ghost fits = { chess_fits };
 

@@ -41,16 +41,6 @@ fn tell(token: u32) -> Answer
 
 // What is asked at one of the eight halls.
 impl<B: Book> Roll<B> {
-    // The 16 tokens come first, and then the page of the book below.
-    fn number_at(&self, hall: Below<HALLS>, place: usize) -> Option<i64>
-        ensures { result ≡ slice_get (page_of B.pages self.now hall) place }
-    {
-        match Below::new(place) {
-            Some(entry) => Some(i64::from(self.tokens.at(hall, entry))),
-            None => self.below.number(hall.get() as u8, place - ENTRIES),
-        }
-    }
-
     fn verdict_at(&self, hall: Below<HALLS>, op: Operation) -> Result<Answer, Refused>
         ensures { result ≡ reply B.model (sheet_of B.pages self.now hall) op }
     {
@@ -72,6 +62,16 @@ impl<B: Book> Roll<B> {
             Ask::Write(entry, token) => tell(self.tokens.put(hall, entry, token)),
             Ask::Read(entry) => tell(self.tokens.at(hall, entry)),
         })
+    }
+
+    // The 16 tokens come first, and then the page of the book below.
+    fn number_at(&self, hall: Below<HALLS>, place: usize) -> Option<i64>
+        ensures { result ≡ slice_get (page_of B.pages self.now hall) place }
+    {
+        match Below::new(place) {
+            Some(entry) => Some(i64::from(self.tokens.at(hall, entry))),
+            None => self.below.number(hall.get() as u8, place - ENTRIES),
+        }
     }
 }
 

@@ -63,8 +63,8 @@ pub trait Cell<const CELLS: usize, const TOTALS: usize>: Copy {
 
     ghost wide: { WIDTH ≡ game.width };
 
-    // it has some
-    ghost some: { 1 ≤ WIDTH };
+    // it has at least one
+    ghost has_numbers: { 1 ≤ WIDTH };
 
     ghost fits: { Fits LAYER game };
 

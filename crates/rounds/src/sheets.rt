@@ -147,25 +147,6 @@ impl<C: Cell<CELLS, TOTALS>, const CELLS: usize, const TOTALS: usize> Kept<C, CE
         }
     }
 
-    // Number i of those of the totals; none past the last.
-    fn total_number(&self, i: usize) -> Option<i64>
-        ensures { result ≡ option_map pos (slice_get self.now.sheet.totals i) }
-    {
-        self.sheet.totals.get(i).copied().map(i64::from)
-    }
-
-    // Number i of those of the cells and then of the totals; none past the last.
-    fn number_after_round(&self, i: usize) -> Option<i64>
-        ensures { result ≡ slice_get (after_round C.game self.now.sheet) i }
-    {
-        let cell = i / C::WIDTH;
-        if cell < CELLS {
-            self.sheet.cells[cell].number(i % C::WIDTH)
-        } else {
-            self.total_number(i - C::WIDTH * CELLS)
-        }
-    }
-
     // Makes the change of what is well done.
     fn change(&mut self, ask: Ask<C::Ask, CELLS, TOTALS>)
         requires { is_ok (says C.game self.old.sheet ask) ≡ true }
@@ -194,6 +175,25 @@ impl<C: Cell<CELLS, TOTALS>, const CELLS: usize, const TOTALS: usize> Kept<C, CE
         let value = self.say(ask)?;
         self.change(ask);
         Ok(value)
+    }
+
+    // Number i of those of the totals; none past the last.
+    fn total_number(&self, i: usize) -> Option<i64>
+        ensures { result ≡ option_map pos (slice_get self.now.sheet.totals i) }
+    {
+        self.sheet.totals.get(i).copied().map(i64::from)
+    }
+
+    // Number i of those of the cells and then of the totals; none past the last.
+    fn number_after_round(&self, i: usize) -> Option<i64>
+        ensures { result ≡ slice_get (after_round C.game self.now.sheet) i }
+    {
+        let cell = i / C::WIDTH;
+        if cell < CELLS {
+            self.sheet.cells[cell].number(i % C::WIDTH)
+        } else {
+            self.total_number(i - C::WIDTH * CELLS)
+        }
     }
 }
 
