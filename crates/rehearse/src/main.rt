@@ -2,6 +2,10 @@
 // halls stand after them.
 #![tactic(auto)]
 
+ghost use Rattle.std.specs.Prelude.{◌≡◌, IfOk, OnOk};
+ghost use Rattle.rehearse.specs.Rehearsal.{rehearsal_told, rehearsed};
+ghost use Rattle.roll.specs.Roll.{roll_model, page_of};
+
 mod halls;
 mod history;
 mod lines;
@@ -28,7 +32,11 @@ fn told_by<B: Book>(
     heap: Global,
     script: &Script,
     roll: &mut Roll<B>,
-) -> Result<(Vec<Result<Said, Refusal>>, u8), AllocError> {
+) -> Result<(Vec<Result<Said, Refusal>>, u8), AllocError>
+    ensures told { IfOk result (λ r. r.0.items ≡ rehearsal_told (roll_model B.model) script.now.at.places (page_of B.pages roll.old) script.now.calls.items) }
+    ensures halls { IfOk result (λ r. r.1 ≡ (rehearsed (roll_model B.model) script.now.at.places (page_of B.pages roll.old) script.now.calls.items).now.world.state.opened) }
+    ensures pages { OnOk result (page_of B.pages roll.new ≡ (rehearsed (roll_model B.model) script.now.at.places (page_of B.pages roll.old) script.now.calls.items).now.pages) }
+{
     let calls = script.calls.as_slice();
     let mut congress = Congress::new();
     let mut post = vec![in heap; Message::Request(Request::default()); script.at.places as usize]?;

@@ -1,0 +1,2 @@
+-- Where a rehearsal begins.
+pub mod Rehearsal
