@@ -1,5 +1,5 @@
-// Makes the calls of a script from standard input one after another at a congress, and prints what each told and how the
-// halls stand after them.
+// Makes the calls of a script, from files or from standard input, one after another at a congress, and prints what each told
+// and how the halls stand after them.
 #![tactic(auto)]
 
 ghost use Rattle.std.specs.Prelude.{◌≡◌, IfOk, OnOk};
@@ -7,6 +7,7 @@ ghost use Rattle.rehearse.specs.Rehearsal.{rehearsal_told, rehearsed};
 ghost use Rattle.roll.specs.Roll.{roll_model, page_of};
 
 mod halls;
+mod help;
 mod history;
 mod lines;
 mod telling;
@@ -17,14 +18,15 @@ use chess::Chess;
 use congress::{Congress, Refusal};
 use entries::Game;
 use halls::print_account;
+use help::HELP;
 use history::history_of;
 use lines::{Script, read_script};
 use order::{Said, conduct};
 use records::{Message, Request};
 use roll::Roll;
 use std::alloc::{AllocError, Global};
-use std::io;
 use std::io::Read;
+use std::{env, fs, io};
 use telling::print_told;
 
 // What each of the calls tells, made in turn at a new congress, and how many halls are open then.
@@ -77,12 +79,42 @@ fn rehearse_on<B: Book + Drop, N: FnOnce() -> B>(
     rehearse_over(rt, script, Roll::new(script.at.chief, new()))
 }
 
-fn main(rt: HostRuntime) -> io::Result<()> {
+// Makes the calls of one script.
+fn rehearse_text(rt: &HostRuntime, text: &[u8]) -> io::Result<()> {
+    let script = read_script(rt.alloc(), text)?;
+    match script.at.game {
+        Game::Chess => rehearse_on(rt, &script, Chess::new),
+        Game::Bridge => rehearse_on(rt, &script, Bridge::new),
+    }
+}
+
+fn rehearse_input(rt: &HostRuntime) -> io::Result<()> {
     let mut text = Vec::new(rt.alloc());
     rt.stdin().read_to_end(&mut text)?;
-    let script = read_script(rt.alloc(), text.as_slice())?;
-    match script.at.game {
-        Game::Chess => rehearse_on(&rt, &script, Chess::new),
-        Game::Bridge => rehearse_on(&rt, &script, Bridge::new),
+    rehearse_text(rt, text.as_slice())
+}
+
+// Each file is a rehearsal of its own, under its name.
+fn rehearse_file(rt: &HostRuntime, name: &str, is_first: bool) -> io::Result<()> {
+    let text = fs::read(rt, name)?;
+    if !is_first {
+        println!(rt; "")?;
     }
+    println!(rt; "script {name}")?;
+    rehearse_text(rt, text.as_slice())
+}
+
+fn main(rt: HostRuntime) -> io::Result<()> {
+    let mut is_first = true;
+    for name in env::args(&rt)?.skip(1) {
+        if is_first && name.as_str() == "--help" {
+            return println!(rt; "{HELP}");
+        }
+        rehearse_file(&rt, name.as_str(), is_first)?;
+        is_first = false;
+    }
+    if is_first {
+        return rehearse_input(&rt);
+    }
+    Ok(())
 }
