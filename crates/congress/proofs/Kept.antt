@@ -27,11 +27,6 @@ voted_from e among own = and_from (bit_or e.votes e.halls == e.halls) (names e.v
 pub votes_within : (e : Entry) → voted e ≡ true → bit_or e.votes e.halls ≡ e.halls
 votes_within e h = eqb-true (bit_or e.votes e.halls) e.halls (and_parts (bit_or e.votes e.halls == e.halls) (names e.votes e.hall) h).0
 
-pub votes_named : (e : Entry) → voted e ≡ true → (k : ℕ) → names e.votes k ≡ true → names e.halls k ≡ true
-votes_named e h k n =
-    let p = names_parts e.votes k n in
-    names_from e.halls k p.0 (within_or e.votes e.halls k (votes_within e h) p.1)
-
 -- a vote of one of its halls is added
 pub voted_more : (e : Entry) (from stamp : ℕ) → voted e ≡ true → names e.halls from ≡ true → voted (with_votes e (bit_or e.votes (2 ^ from)) stamp) ≡ true
 voted_more e from stamp h named =
@@ -108,10 +103,6 @@ kept_between halls (e ∷ es) k (suc i) (suc j) l m n =
 pub kept_at : (halls : List Hall) (es : List Entry) (i : ℕ) → kept halls es ≡ true → i < length es
     → (voted (entry_in es i) ≡ true) × (suits (get_or halls (entry_in es i).hall no_hall) (entry_in es i) ≡ true)
 kept_at halls es i k l = kept_fits halls es k i no_entry l
-
-pub kept_apart : (halls : List Hall) (es : List Entry) (i j : ℕ) → kept halls es ≡ true → i < length es → j < length es → (i ≡ j → ⊥)
-    → apart (entry_in es i) (entry_in es j) ≡ true
-kept_apart halls es i j k l m n = kept_between halls es k i j l m n
 
 -- Changes.
 

@@ -78,47 +78,6 @@ bit_pow_self (suc k) =
     let p : 2 ^ suc k / 2 ≡ 2 ^ k = let q = pow-suc 2 k in omega arith in
     is_bit (2 ^ suc k) (suc k) (ap (λ (x : ℕ). x % 2) (half (2 ^ suc k) k ∙ ap (λ (x : ℕ). x / 2 ^ k) p) ∙ bit_is (2 ^ k) k (bit_pow_self k))
 
-pub bit_or_right : (m n k : ℕ) → bit n k ≡ true → bit (bit_or m n) k ≡ true
-bit_or_right m n k h =
-    let b = bit_is n k h in
-    let e = or_shr m n k in
-    let s = or_step (m / 2 ^ k) (n / 2 ^ k) in
-    is_bit (bit_or m n) k (omega arith)
-
-pub bit_and_both : (m n k : ℕ) → bit m k ≡ true → bit n k ≡ true → bit (bit_and m n) k ≡ true
-bit_and_both m n k g h =
-    let a = bit_is m k g in
-    let b = bit_is n k h in
-    let e = and_shr m n k in
-    let s = and_step (m / 2 ^ k) (n / 2 ^ k) in
-    is_bit (bit_and m n) k (omega arith)
-
-pub bit_and_right : (m n k : ℕ) → bit (bit_and m n) k ≡ true → bit n k ≡ true
-bit_and_right m n k h =
-    let b = bit_is (bit_and m n) k h in
-    let e = and_shr m n k in
-    let s = and_step (m / 2 ^ k) (n / 2 ^ k) in
-    is_bit n k (omega arith)
-
--- disjoint numbers share no bit, and numbers that share none are disjoint
-pub no_common : (m n k : ℕ) → bit_and m n ≡ 0 → bit m k ≡ true → bit n k ≡ true → ⊥
-no_common m n k e g h = bit_zero k (subst (λ (x : ℕ). bit x k ≡ true) e (bit_and_both m n k g h))
-
-none_set : (n m : ℕ) → m ≤ n → ((k : ℕ) → bit m k ≡ true → ⊥) → m ≡ 0
-none_set zero m l h = omega arith
-none_set (suc n) m l h =
-    let e : m / 2 ≡ 0 = none_set n (m / 2) (omega arith)
-    (λ k a. h (suc k) (is_bit m (suc k) (ap (λ (x : ℕ). x % 2) (half m k) ∙ bit_is (m / 2) k a))) in
-    elim (cases_eq (m % 2) 1) [
-      | inl y ↦ absurd (h 0 (is_bit m 0 (omega arith)))
-      | inr y ↦ omega arith
-    ]
-
-pub disjoint_parts : (a b c d : ℕ) → bit_and (bit_or a b) (bit_or c d) ≡ 0 → bit_and b d ≡ 0
-disjoint_parts a b c d e =
-    none_set (bit_and b d) (bit_and b d) (omega arith)
-    (λ k h. no_common (bit_or a b) (bit_or c d) k e (bit_or_right a b k (bit_and_left b d k h)) (bit_or_right c d k (bit_and_right b d k h)))
-
 -- what lies in a set adds nothing to it
 or_within : (a m : ℕ) → ((k : ℕ) → bit a k ≡ true → bit m k ≡ true) → bit_or a m ≡ m
 or_within a m within = same_from_bits (bit_or a m) m (λ i.

@@ -1,4 +1,4 @@
--- What each call answers, and what it leaves.
+-- What Open, Issue, Clock, Drop and Find answer, and what they leave.
 use Rattle.std.specs.Prelude.{◌≡◌, ℕ, ◌+◌, ◌-◌, ◌^◌, cond, not, ◌||◌, List, Ok, Err, Option, Result, ◌==◌, count_ones, nat_le, nat_lt, slice_index_or, slice_set}
 use Rattle.std.specs.Result.{OnErr}
 use Rattle.congress.specs.Sending.{requests, no_operation, no_message}

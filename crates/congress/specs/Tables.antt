@@ -1,4 +1,4 @@
--- The records of the tables, one field changed and the rest as it was. No other file builds one by naming all its fields.
+-- The records of the tables, with some fields changed and the rest as it was. A hall, console or entry as it is at first stands where it is made.
 use Rattle.std.specs.Prelude.{ℕ, ◌+◌, Bool, true, List}
 use Rattle.congress.specs.declared.tables.Console.{Console}
 use Rattle.congress.specs.declared.tables.Entry.{Entry}

@@ -1,4 +1,4 @@
-// The calls of a congress.
+// The calls of a congress that ask nothing of a book.
 ghost use Rattle.std.specs.Prelude.{◌≡◌, ◌+◌, ◌<◌, cond};
 ghost use Rattle.congress.specs.Calls.{Untouched, open_step, clock_step, issue_step, drop_step, find_answer};
 ghost use Rattle.congress.specs.Entries.{entry_transaction};

@@ -8,6 +8,9 @@ use super::state::Congress;
 use super::tables::{Entry, Mode};
 use records::{count_of, first_from};
 
+// So many parts may wait.
+const QUEUE_PLACES: usize = 64;
+
 impl Entry {
     // Whether every named hall has a vote in it.
     #[tactic(auto, using(crate::proofs::Counting::all_voted))]
@@ -69,7 +72,7 @@ impl Congress {
     pub(crate) fn is_full(&self) -> bool
         ensures { result ≡ nat_le 64 (length (state self.now).entries) }
     {
-        self.waiting >= 64
+        self.waiting >= QUEUE_PLACES
     }
 
     // Whether a hall has an entry.

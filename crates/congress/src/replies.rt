@@ -2,7 +2,7 @@
 ghost use Rattle.std.specs.Prelude.{◌≡◌, ℕ, ◌<◌, List, Ok, ◌==◌};
 ghost use Rattle.book.specs.Model.{Page};
 ghost use Rattle.congress.specs.Meaning.{scene_of};
-ghost use Rattle.congress.specs.Replies.{awaits, complete, replies, outcome_of, still_busy, answered, reply_step};
+ghost use Rattle.congress.specs.Replies.{awaits, complete, replies, outcome_of, answered, reply_step};
 ghost use Rattle.records.specs.Classes.{status_number};
 ghost use Rattle.records.specs.declared.classes.Status.TheVariants.{Commit};
 ghost use Rattle.records.specs.declared.messages.Message.{Message};
@@ -10,7 +10,7 @@ ghost use Rattle.records.specs.declared.messages.Message.{Message};
 use super::outcomes::{Outcome, Report};
 use super::state::Congress;
 use super::tables::Console;
-use records::{Reply, Status, console_of, count_of, has, sequence_of};
+use records::{Reply, Status, console_of, has, sequence_of};
 
 pub(crate) fn is_commit(status: u8) -> bool
     ensures { result ≡ (status == status_number Commit) }

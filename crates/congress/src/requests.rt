@@ -2,7 +2,7 @@
 ghost use Rattle.std.specs.Prelude.{◌≡◌, ◌<◌, List};
 ghost use Rattle.congress.specs.Kept.{locks};
 ghost use Rattle.congress.specs.Meaning.{scene_of};
-ghost use Rattle.congress.specs.Requests.{class_in, verdict, by_verdict, fate_free, fate_locking, fate_timestamp, fate, is_old};
+ghost use Rattle.congress.specs.Requests.{class_in, by_verdict, fate_locking, fate_timestamp, fate, is_old};
 ghost use Rattle.records.specs.declared.messages.Message.{Message};
 
 use super::fates::Fate;

@@ -1,6 +1,5 @@
 // Messages go to the end of the post.
 ghost use Rattle.std.specs.Prelude.{◌≡◌, ◌+◌, ◌<◌, ◌≤◌, [], ◌∷◌, min, length};
-ghost use Rattle.congress.specs.Calls.{draft_of};
 ghost use Rattle.congress.specs.Meaning.{with_post};
 ghost use Rattle.congress.specs.Sending.{is_other, requests, votes_of, reply_of};
 ghost use Rattle.congress.specs.State.{posting};

@@ -1,15 +1,13 @@
 // Deliver, of a request: what its hall then holds, what it sends and what is told.
-ghost use Rattle.std.specs.Prelude.{◌≡◌, ℕ, ◌^◌, ◌<◌, ◌≤◌, true, false, cond, ◌&&◌, Err, List, [], ◌∷◌, ◌++◌, Ok, length, slice_set};
+ghost use Rattle.std.specs.Prelude.{◌≡◌, ℕ, ◌<◌, ◌≤◌, true, false, cond, ◌&&◌, Err, [], ◌∷◌, ◌++◌, Ok, length, slice_set};
 ghost use Rattle.book.specs.Model.{Page};
-ghost use Rattle.congress.specs.Kept.{locks, kept};
+ghost use Rattle.congress.specs.Kept.{kept};
 ghost use Rattle.congress.specs.Meaning.{state, with_post, scene_of};
-ghost use Rattle.congress.specs.Requests.{hall_of, class_in, recorded, locked_for, entry_for, falling, sent, recording, taken_as, take_as, fate, needs_entry, full, is_old, request_step};
+ghost use Rattle.congress.specs.Requests.{recorded, locked_for, entry_for, falling, sent, recording, taken_as, take_as, fate, needs_entry, full, is_old, request_step};
 ghost use Rattle.congress.specs.State.{Scene, hall_at, with_hall, with_entries, lacks_room, sending};
 ghost use Rattle.congress.specs.Telling.{tell};
 ghost use Rattle.congress.specs.declared.fates.Fate.TheVariants.{Enters, Runs};
-ghost use Rattle.records.specs.Classes.{status_number};
 ghost use Rattle.records.specs.Halls.{names};
-ghost use Rattle.records.specs.declared.messages.Message.{Message};
 
 use super::congress::POST_PLACES;
 use super::fates::Fate;

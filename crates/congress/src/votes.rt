@@ -1,14 +1,11 @@
 // Deliver, of a vote; and how an entry leaves.
-ghost use Rattle.std.specs.Prelude.{◌≡◌, ℕ, ◌+◌, ◌<◌, List, Ok, true, slice_set};
+ghost use Rattle.std.specs.Prelude.{◌≡◌, ℕ, ◌<◌, List, Ok, true, slice_set};
 ghost use Rattle.book.specs.Model.{Page};
 ghost use Rattle.congress.specs.Kept.{kept};
 ghost use Rattle.congress.specs.Meaning.{state, scene_of};
 ghost use Rattle.congress.specs.Queue.{entry_in, without};
-ghost use Rattle.congress.specs.State.{hall_at, with_hall, with_entries, lacks_room};
-ghost use Rattle.congress.specs.Telling.{tell};
-ghost use Rattle.congress.specs.Votes.{settled, leaving, counts, counted, counted_as, count_vote, removed, remove_entry, vote_on, vote_step};
-ghost use Rattle.congress.specs.declared.outcomes.Outcome.TheVariants.{Removed};
-ghost use Rattle.records.specs.Halls.{names};
+ghost use Rattle.congress.specs.State.{hall_at, with_hall, with_entries};
+ghost use Rattle.congress.specs.Votes.{settled, leaving, counts, counted, counted_as, count_vote, remove_entry, vote_on, vote_step};
 ghost use Rattle.records.specs.declared.messages.Message.{Message};
 
 use super::outcomes::{Outcome, Report, no_answer};

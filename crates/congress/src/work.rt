@@ -2,7 +2,6 @@
 ghost use Rattle.std.specs.Prelude.{◌≡◌, ◌<◌, IfSome};
 ghost use Rattle.congress.specs.Calls.{Untouched};
 ghost use Rattle.congress.specs.Meaning.{state, scene_of};
-ghost use Rattle.congress.specs.Queue.{entry_in};
 ghost use Rattle.congress.specs.Work.{raised, work_entry, work_on, work_step};
 
 use super::outcomes::{Outcome, Report};

@@ -38,20 +38,26 @@ module _ (m : Model) (laws : Lawful m) (s : Scene) (own : (h : ℕ) → m.own (s
   pub list_promised : (calls : List Call) → BeginsWithOpen calls → Promised m (run m calls (beginning s))
   list_promised calls b = subst (λ (l : List Call). Promised m (run m l (beginning s))) (sym b.is) (opened_promised b.halls b.rest b.some b.few)
 
-  -- a list that begins so still does when its end is cut off, or goes on
+  -- a list that begins so still does when its end is cut off
   pub each_promised : (calls : List Call) → BeginsWithOpen calls → AfterEach m calls s (Promised m)
   each_promised calls b zero low high = absurd (omega arith)
   each_promised calls b (suc k) low high =
       list_promised (take (suc k) calls) (record { halls = b.halls; rest = take k b.rest; is = ap (take (suc k)) b.is; some = b.some; few = b.few })
 
-  pub more_promised : (calls : List Call) (call : Call) → BeginsWithOpen calls → Promised m (run m (calls ++ call ∷ []) (beginning s))
-  more_promised calls call b =
-      list_promised (calls ++ call ∷ []) (record { halls = b.halls; rest = b.rest ++ call ∷ []; is = ap (λ (l : List Call). l ++ call ∷ []) b.is; some = b.some; few = b.few })
+-- calls that go on where others ended
+run_append : (m : Model) (past calls : List Call) (g : Past) → run m (past ++ calls) g ≡ run m calls (run m past g)
+run_append m [] calls g = refl
+run_append m (c ∷ cs) calls g = run_append m cs calls (one_call m c g)
 
-pub leads_on : (m : Model) → Lawful m → (call : Call) (before : Scene) → LeadsOn m call before (step m call before).1
-leads_on m laws call before s calls own begins reached = (
-  ap (λ (g : Past). g.now) (run_push m calls call (beginning s)) ∙ ap (λ (x : Scene). (step m call x).1) reached,
-  more_promised m laws s own calls call begins,
+-- what a list leaves goes by what it finds
+run_now : (m : Model) (calls : List Call) (g g' : Past) → g.now ≡ g'.now → (run m calls g).now ≡ (run m calls g').now
+run_now m [] g g' e = e
+run_now m (c ∷ cs) g g' e = run_now m cs (one_call m c g) (one_call m c g') (ap (λ (s : Scene). (step m c s).1) e)
+
+pub leads_on : (m : Model) → Lawful m → (calls : List Call) (before : Scene) → LeadsOn m calls before (run m calls (beginning before)).now
+leads_on m laws calls before s past own reached = (
+  ap (λ (g : Past). g.now) (run_append m past calls (beginning s)) ∙ run_now m calls (run m past (beginning s)) (beginning before) reached,
+  λ k low begins. list_promised m laws s own (past ++ take k calls) begins,
 )
 
 -- a list of calls that are made in turn, with what they tell

@@ -165,7 +165,7 @@ raised s s' t d dt l h = grind (arith, nat_tests)
 late : (s t d dt : ℕ) → d < s → before s t d dt ≡ false
 late s t d dt l = grind (arith, nat_tests)
 
--- above the hall's last, a stamp comes after all that issues done there
+-- above the hall's last, a stamp comes after all that is done there
 pub above_last : (m : Model) (last : ℕ → ℕ) (done : List Part) (s t h : ℕ) (o : Operation) → last h < s → ((d : Part) → d ∈ done → d.stamp ≤ last d.hall)
     → (d : Part) → d ∈ done → d.hall ≡ h → AfterOrApart m s t o d
 above_last m last done s t h o l lasts d j q =

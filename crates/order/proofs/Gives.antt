@@ -35,6 +35,7 @@ gives_one_order m g said kept = record {
       let q = no_higher said g.history.issues y x b a (sym e) in
       omega arith;
   plain = kept.right.plain;
+  issued = λ x i. let a = kept.told.did x i in (a.issue, a.found, a.here);
   once = kept.single.once;
   no_fault = kept.right.no_fault;
 }

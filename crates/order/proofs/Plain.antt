@@ -15,11 +15,6 @@ abbrev pub ApartAll : Model → Operation → List Part → Type 0
 ApartAll m x ys = (y : Part) → y ∈ ys → Apart m x y.operation
 
 module _ (m : Model) (laws : Lawful m) where
-  -- the book goes on writing pages of its own
-  pub own_after : (ys : List Part) (p : Page) → m.own p → m.own (page_after m p ys)
-  own_after [] p own = own
-  own_after (y ∷ ys) p own = own_after ys (m.next p y.operation) (laws.keeps p y.operation own)
-
   pub page_past : (x : Operation) (ys : List Part) (p : Page) → m.own p → ApartAll m x ys → page_after m (m.next p x) ys ≡ m.next (page_after m p ys) x
   page_past x [] p own h = refl
   page_past x (y ∷ ys) p own h =
@@ -88,7 +83,7 @@ sorted : (xs : List Part) → Sorted (in_order xs)
 sorted [] = tt
 sorted (x ∷ xs) = placed_sorted x (in_order xs) (sorted xs)
 
--- x comes no comes_before than y, or is apart from it
+-- x comes no sooner than y, or is apart from it
 abbrev pub AfterOrApart : Model → ℕ → ℕ → Operation → Part → Type 0
 AfterOrApart m s t x y = (before s t y.stamp y.transaction ≡ false) ⊎ Apart m x y.operation
 

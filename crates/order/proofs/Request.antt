@@ -97,9 +97,6 @@ module _ (said : Sayings) (issues : List Issued) (t own halls : ℕ) where
 coordinated_locks : (mode : Mode) (c : Class) → c ≡ Coordinated → locks (mode_for mode c) ≡ true
 coordinated_locks mode c e = ap (λ (w : Class). locks (mode_for mode w)) e
 
-single_not_coordinated : Single ≡ Coordinated → ⊥
-single_not_coordinated e = let z : ◌≡◌ {A = ℕ} 1 3 = ap class_number e in omega arith
-
 -- an entry that holds its keys, none of which an operation needs, is apart from it
 apart_held : (m : Model) (e : Entry) (o : Operation) → Holds m e → bit_and e.keys (m.keys o) ≡ 0 → Apart m e.operation o
 apart_held m e o h n = eq-eqb (bit_and (m.keys e.operation) (m.keys o)) 0 (ap (λ (k : ℕ). bit_and k (m.keys o)) (sym h) ∙ n)
@@ -143,9 +140,6 @@ module _ {m : Model} {said : Sayings} {s : Scene} {H : History} (sound : Sound s
 
   size : length x.taken ≡ 16
   size = sound.taken r.to low
-
-  new_taken : List ℕ
-  new_taken = set x.taken (console t) (sequence t)
 
   new_here : get_or (set x.taken (console t) (sequence t)) (console t) 0 ≡ sequence t
   new_here = get_or-set_same x.taken (console t) (sequence t) 0 (let z = size in omega arith)

@@ -1,12 +1,13 @@
 -- What every call keeps of the tables and the queue, whatever the post holds.
-use Rattle.std.proofs.Common.{◌≡◌, ℕ, zero, suc, ◌+◌, ◌-◌, ◌/◌, ◌%◌, ◌^◌, ◌<◌, ◌≤◌, max, true, false, ltb, List, [], ◌∷◌, ◌++◌, length, get_or, set, Result, sym, refl, ap, ◌∙◌, subst, inl, inr, add-one, append-nil, arith, length-set, get_or-set_other, get_or-set_same}
+use Rattle.std.proofs.Common.{◌≡◌, ℕ, suc, ◌-◌, ◌^◌, ◌<◌, ◌≤◌, max, true, false, ltb, List, [], ◌∷◌, ◌++◌, length, get_or, set, Result, sym, refl, ap, ◌∙◌, subst, inl, inr, arith, length-set, get_or-set_other, get_or-set_same}
 use Rattle.std.specs.Prelude.{◌==◌, bit_and, count_ones}
-use Rattle.std.specs.Int.Count.{ones, ones_step}
+use Rattle.std.specs.Int.Count.{ones}
 use lib.Bits.{and_zero_r}
 use lib.ListN.{get_or-replicate}
 use Rattle.book.specs.Model.{Model}
 use Rattle.congress.proofs.Apart.{TwoApart, apart_transactions, apart_from, flip_apart}
 use Rattle.congress.proofs.Between.{Between, between_push, between_set, between_without}
+use Rattle.congress.proofs.Sent.{requests_few}
 use Rattle.congress.proofs.Kept.{WaitsWell, by_hall, voted_more, voted_new, suits_from, kept_from}
 use Rattle.congress.proofs.Places.{taken_out_length, taken_out_from}
 use Rattle.congress.proofs.Sets.{names_or_left, names_pow_self}
@@ -14,7 +15,6 @@ use Rattle.congress.specs.Calls.{draft_of}
 use Rattle.congress.specs.Kept.{voted, locks, coordinated}
 use Rattle.congress.specs.Queue.{no_entry, entry_in, any_at, without}
 use Rattle.congress.specs.Requests.{hall_of, class_in, recorded, mode_for, locked_for, entry_for}
-use Rattle.congress.specs.Sending.{no_operation, to_hall, requests_below, requests}
 use Rattle.congress.specs.State.{State, Scene, hall_at, console_at, fresh, no_hall, new_hall, new_halls, new_consoles, with_hall, with_console, with_entries, with_count}
 use Rattle.congress.specs.Tables.{with_last, with_mode}
 use Rattle.congress.specs.Votes.{settled, leaving, counted}
@@ -32,20 +32,16 @@ use Rattle.order.proofs.Queue.{held_none, any_none, any_some}
 use Rattle.order.specs.Promises.{◌∈◌, WellKept}
 use Rattle.order.specs.declared.calls.Call.{Call}
 use Rattle.order.specs.declared.calls.Said.{Said}
-use Rattle.records.specs.Halls.{bit, names, fit}
+use Rattle.records.specs.Halls.{names, fit}
 use Rattle.records.specs.Transactions.{console, sequence, transaction}
-use Rattle.records.specs.declared.Operation.{Operation}
 use Rattle.records.specs.declared.classes.Class.{Class}
 use Rattle.records.specs.declared.classes.Class.TheVariants.{Single, Independent, Coordinated}
-use Rattle.records.specs.declared.messages.Message.{Message}
-use Rattle.records.specs.declared.messages.Message.TheVariants.{Request as request}
 use Rattle.records.specs.declared.messages.Request.{Request}
 use Rattle.records.specs.declared.messages.Vote.{Vote}
-use Rattle.std.proofs.lemmas.Bool.{and_parts, or_cases, or_left, or_right, eqb-true, eqb-false, eq-eqb, ltb-true, true≢false, cond_both, cond-true, cases_eq, cases_Bool}
+use Rattle.std.proofs.lemmas.Bool.{and_parts, or_cases, or_left, or_right, eqb-true, eq-eqb, ltb-true, true≢false, cond_both, cond-true, cases_eq, cases_Bool}
 use Rattle.std.proofs.lemmas.List.{get_or-take, length_push}
 use Rattle.std.proofs.lemmas.List.Elements.{All-from_get_or}
 use Rattle.std.proofs.lemmas.List.Folds.{list_any-append}
-use Rattle.std.proofs.lemmas.Nat.{shr-shr}
 
 -- what every entry keeps
 pub record EntrySound (s : State) (e : Entry) : Type 0 where
@@ -100,25 +96,6 @@ opened_sound n l = record {
   each = λ e i. absurd i;
   settled = λ h below locking. absurd (true≢false (sym locking ∙ ap (λ (x : Hall). locks x.mode) (get_or-replicate 8 h new_hall no_hall below)));
 }
-
--- Requests.
-
--- the requests to the halls below n, and the halls still to come, are the halls named
-to_come : (draft : Request) (operations : List Operation) (n : ℕ) → length (requests_below draft operations n) + ones (draft.halls / 2 ^ n) ≡ ones draft.halls
-to_come draft operations zero = let e : draft.halls / 1 ≡ draft.halls = omega arith in omega (arith, ap ones e)
-to_come draft operations (suc n) =
-    let before = requests_below draft operations n in
-    let message = request (to_hall draft n (get_or operations n no_operation)) in
-    let half = ap ones (shr-shr draft.halls n 1 ∙ ap (λ k. draft.halls / 2 ^ k) (add-one n)) in
-    let split = ones_step (draft.halls / 2 ^ n) in
-    let rest = to_come draft operations n in
-    cond_both (bit draft.halls n) (message ∷ []) [] (λ (l : List Message). length (before ++ l) + ones (draft.halls / 2 ^ suc n) ≡ ones draft.halls)
-    (λ y. omega (arith, length_push before message, eqb-true (draft.halls / 2 ^ n % 2) 1 y))
-    (λ y. omega (arith, ap length (append-nil before), eqb-false (draft.halls / 2 ^ n % 2) 1 y))
-
-pub requests_length : (draft : Request) (operations : List Operation) → length (requests draft operations) ≤ count_ones draft.halls
-unfolding requests
-requests_length draft operations = let e = to_come draft operations 8 in omega arith
 
 -- Entries of a hall.
 
@@ -501,7 +478,7 @@ sound_step (opens halls some few) k = opened_sound halls few
 sound_step {m} {s} (issues c class halls operations may) k =
     sound_count _ (sound_console s.world.state k c _) _
     (let few = count_few s.world (count_ones halls) may.room in
-    let sent = requests_length (draft_of (console_at s.world.state c) c class halls operations) operations in
+    let sent = requests_few (draft_of (console_at s.world.state c) c class halls operations) operations in
     omega arith)
 sound_step {m} {s} (enters place r stamp a may room) k = sound_count _ (sound_enters m s k place r stamp a may) _ (count_few s.world _ room)
 sound_step {m} {s} (runs place r stamp a may room) k = sound_count _ (sound_recorded m s k place r stamp a _) _ (count_few s.world _ room)

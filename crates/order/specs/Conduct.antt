@@ -35,9 +35,10 @@ pub record BeginsWithOpen (calls : List Call) : Type 0 where
 abbrev pub AfterEach : Model → List Call → Scene → (Past → Type 0) → Type 0
 AfterEach m calls s P = (k : ℕ) → 1 ≤ k → k ≤ length calls → P (run m (take k calls) (beginning s))
 
--- One call more, of a program that makes its calls one by one: wherever a list of calls that begins with such an Open has led to the
--- congress, post and pages before the call, the list with this call leads to those after it, and all is promised there.
-abbrev pub LeadsOn : Model → Call → Scene → Scene → Type 0
-LeadsOn m call before after =
-    (s : Scene) (calls : List Call) → ((h : ℕ) → m.own (s.pages h)) → BeginsWithOpen calls → (run m calls (beginning s)).now ≡ before
-    → ((run m (calls ++ call ∷ []) (beginning s)).now ≡ after) × Promised m (run m (calls ++ call ∷ []) (beginning s))
+-- Calls that go on where others ended: wherever a list of calls has led to the congress, post and pages before these, the list with
+-- these leads to those after them, and after each of them all is promised, if the first call of all is an Open that is not refused.
+abbrev pub LeadsOn : Model → List Call → Scene → Scene → Type 0
+LeadsOn m calls before after =
+    (s : Scene) (past : List Call) → ((h : ℕ) → m.own (s.pages h)) → (run m past (beginning s)).now ≡ before
+    → ((run m (past ++ calls) (beginning s)).now ≡ after)
+    × ((k : ℕ) → k ≤ length calls → BeginsWithOpen (past ++ take k calls) → Promised m (run m (past ++ take k calls) (beginning s)))

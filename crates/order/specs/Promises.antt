@@ -1,14 +1,15 @@
 -- What is promised of every list of calls.
-use Rattle.std.specs.Prelude.{◌≡◌, ℕ, ◌<◌, ◌≤◌, true, ◌⊎◌, List, [], ◌∷◌, length, ◌≢◌}
+use Rattle.std.specs.Prelude.{◌≡◌, ℕ, ◌<◌, ◌≤◌, true, ◌⊎◌, List, [], ◌∷◌, length, ◌≢◌, Some}
 use Rattle.book.specs.Model.{Page, Model}
 use Rattle.congress.specs.Kept.{locks, kept}
 use Rattle.congress.specs.Queue.{any_at}
 use Rattle.congress.specs.State.{State, hall_at, world, scene}
-use Rattle.order.specs.History.{Fallen}
+use Rattle.order.specs.History.{Issued, issue_of, Fallen}
 use Rattle.order.specs.Plain.{Part, at_hall, PlainOrder}
 use Rattle.order.specs.Runs.{Past, beginning, run}
 use Rattle.order.specs.declared.calls.Call.{Call}
 use Rattle.records.specs.Answers.{well_done}
+use Rattle.records.specs.Halls.{names}
 use Rattle.records.specs.declared.messages.Message.{Message}
 
 infix 40 ◌∈◌
@@ -28,6 +29,8 @@ pub record OneOrder (m : Model) (g : Past) : Type 0 where
   pub one_stamp : (x y : Part) → x ∈ g.history.done → y ∈ g.history.done → x.transaction ≡ y.transaction → x.stamp ≡ y.stamp
   -- each hall's page, and the answer of each part done there, are those of its plain order
   pub plain : (h : ℕ) → PlainOrder m (g.history.first h) (at_hall h g.history.done) (g.now.pages h)
+  -- a part is done only of a transaction that was issued, and at a hall that it names
+  pub issued : (x : Part) → x ∈ g.history.done → (i : Issued) × (issue_of x.transaction g.history.issues ≡ Some i) × (names i.halls x.hall ≡ true)
   -- a hall does its part of a transaction at most once
   pub once : Once g.history.done
   -- no coordinated part is done with a fault

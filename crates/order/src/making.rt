@@ -1,5 +1,5 @@
 // Makes calls at a congress, and states what is promised of them.
-ghost use Rattle.std.specs.Prelude.{◌≡◌, length, nat_le, is_ok, OnOk, OnErr};
+ghost use Rattle.std.specs.Prelude.{◌≡◌, [], ◌∷◌, length, nat_le, is_ok, OnOk, OnErr};
 ghost use Rattle.congress.specs.Meaning.{scene_of};
 ghost use Rattle.order.specs.Conduct.{told, Promised, BeginsWithOpen, AfterEach, LeadsOn};
 ghost use Rattle.order.specs.Runs.{beginning, run, step};
@@ -43,7 +43,7 @@ fn make_by_kind<B: Book>(
 }
 
 // Makes one call. Wherever a list of calls has led to this congress, post and book, it leads on by this call, and all is
-// promised there.
+// promised there if it is or follows an Open that is not refused.
 pub fn make<B: Book>(
     congress: &mut Congress,
     book: &mut B,
@@ -51,7 +51,7 @@ pub fn make<B: Book>(
     call: Call,
 ) -> Result<Said, Refusal>
     ensures step { (result, scene_of congress.new post.new (B.pages book.new)) ≡ step B.model call (scene_of congress.old post.old (B.pages book.old)) }
-    ensures promises { LeadsOn B.model call (scene_of congress.old post.old (B.pages book.old)) (scene_of congress.new post.new (B.pages book.new)) }
+    ensures promises { LeadsOn B.model (call ∷ []) (scene_of congress.old post.old (B.pages book.old)) (scene_of congress.new post.new (B.pages book.new)) }
 {
     make_by_kind(congress, book, post, call)
 }
@@ -70,6 +70,7 @@ pub fn conduct<B: Book>(
     ensures told { OnOk result (answers.new ≡ sets answers.old 0 (told B.model calls.now (beginning (scene_of congress.old post.old (B.pages book.old))))) }
     ensures refused { OnErr result ((scene_of congress.new post.new (B.pages book.new) ≡ scene_of congress.old post.old (B.pages book.old)) × (answers.new ≡ answers.old)) }
     ensures promises { BeginsWithOpen calls.now → AfterEach B.model calls.now (scene_of congress.old post.old (B.pages book.old)) (Promised B.model) }
+    ensures goes_on { OnOk result (LeadsOn B.model calls.now (scene_of congress.old post.old (B.pages book.old)) (scene_of congress.new post.new (B.pages book.new))) }
 {
     if answers.len() < calls.len() {
         return Err(TooShort);

@@ -8,7 +8,7 @@ use script::Settings;
 use std::alloc::{AllocError, Global};
 use std::io;
 
-// What a hall did, in order, as the log of a sheet; no line of the script says it, so the lines are counted anew.
+// What a hall did, in order, as the log of a sheet; no line of a sheet says it, so its line is 0.
 fn log_of(heap: Global, hall: u8, done: &[Part]) -> Result<Vec<LogEntry>, AllocError> {
     let mut log = Vec::new(heap);
     for part in done.iter().filter(|part| part.hall == hall) {

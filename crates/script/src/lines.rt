@@ -1,5 +1,5 @@
 // What a line says after its first word.
-ghost use Rattle.std.specs.Prelude.{◌≡◌, Ok, pos, unsigned_abs};
+ghost use Rattle.std.specs.Prelude.{◌≡◌, Ok, unsigned_abs};
 ghost use Rattle.script.specs.Reading.{opening, heading, only as only_field, only_long, book_line, pages_line, as_line, clock_line, issue_line, line_of, line_says};
 ghost use Rattle.script.specs.Words.{and_then};
 

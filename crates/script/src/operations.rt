@@ -1,5 +1,5 @@
 // An operation in words.
-ghost use Rattle.std.specs.Prelude.{◌≡◌, Ok};
+ghost use Rattle.std.specs.Prelude.{◌≡◌};
 ghost use Rattle.script.specs.Words.{left};
 ghost use Rattle.script.specs.Operations.{signed as signed_by, about, appointment, seating, outcome, score, score_line, any, operation_after, operation};
 

@@ -1,5 +1,5 @@
 // The parts of an issue: the operations of its halls.
-ghost use Rattle.std.specs.Prelude.{◌≡◌, suc, length, slice_set};
+ghost use Rattle.std.specs.Prelude.{◌≡◌, suc, slice_set};
 ghost use Rattle.script.specs.Parts.{with_part, all_parts};
 ghost use Rattle.script.specs.Words.{left};
 

@@ -1,4 +1,4 @@
-use Rattle.std.proofs.Common.{Result, sym, subst}
+use Rattle.std.proofs.Common.{[], ◌∷◌, Result, sym, subst}
 use Rattle.congress.specs.State.{Scene}
 use Rattle.congress.specs.declared.refusals.Refusal.{Refusal}
 use Rattle.order.proofs.Conducted.{leads_on}
@@ -11,4 +11,4 @@ pub returns-clause-promises : goal.returns-clause-promises
 returns-clause-promises g c =
     let m = g.B.Book.model in
     let before = scene_of c.args.congress.now c.args.post.now (g.B.Book.pages c.args.book.now) in
-    subst (λ (x : Result Said Refusal × Scene). LeadsOn m c.args.call before x.1) (sym c.make_by_kind.ensures) (leads_on m g.met.B.Book.lawful c.args.call before)
+    subst (λ (x : Result Said Refusal × Scene). LeadsOn m (c.args.call ∷ []) before x.1) (sym c.make_by_kind.ensures) (leads_on m g.met.B.Book.lawful (c.args.call ∷ []) before)
