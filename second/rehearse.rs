@@ -1,5 +1,5 @@
-//! Makes the calls of scripts at a congress and prints what they told, or checks what they lead to, as
-//! docs/RULES.md says.
+//! Makes the calls of scripts at a congress and prints what they told, as docs/RULES.md says; or checks what
+//! they lead to, against the plain order of each hall worked out anew after each call.
 //!
 //!     rehearse [--check] [SCRIPT ..]
 //!     rehearse --help
@@ -37,32 +37,7 @@ use stage::{Rehearsal, Stage};
 const HELP: &str = "\
 rehearse [SCRIPT ..]          makes the calls of each script, or of standard input
 rehearse --check [SCRIPT ..]  checks what each call leads to
-rehearse --help               prints this
-
-Headings, before the first call:
-  book chess | book bridge    the book, else chess
-  chief TOKEN                 the chief's token, else 1
-  post PLACES                 the places of the post, else 1024
-  pages                       print every page in full
-Calls:
-  open HALLS                  open so many halls, 1 to 8
-  issue CONSOLE CLASS HALLS PART ..
-                              CLASS: single, independent, coordinated or a number
-                              HALLS: a number with bit h for hall h
-                              PART: at HALL OPERATION or all OPERATION
-  deliver PLACE               deliver the message at a place of the post
-  work HALL                   let a hall do a part that waits
-  clock HALL TIME             set a hall's clock
-  drop PLACE                  drop the message at a place of the post
-Anywhere:
-  as GRANT TOKEN              who asks for the operations from here on, else 0 1
-  # ..                        a comment
-Operations:
-  appoint ENTRY TOKEN         remove ENTRY             deputy ENTRY
-  seat BOARD WHITE BLACK      result BOARD ROUND 1-0   show BOARD
-  score DEAL N-S E-W SCORE    line DEAL N-S
-  close ROUND                 total PARTY
-  op KIND GRANT TOKEN A B C D
+rehearse --help               prints this; docs/RULES.md has the language
 ";
 
 /// What is printed of a script, and whether nothing was amiss.
@@ -99,24 +74,23 @@ fn print_input(print: fn(Script) -> Printed) -> bool {
     is_well
 }
 
-/// A file that cannot be read is told on standard error, and the others are read all the same.
+/// A file that cannot be read is told on standard error, and ends the program.
 fn print_files(names: &[OsString], print: fn(Script) -> Printed) -> bool {
     let mut all_well = true;
     for (index, name) in names.iter().enumerate() {
+        let input = match fs::read(name) {
+            Ok(input) => input,
+            Err(error) => {
+                eprintln!("rehearse: {}: {error}", name.to_string_lossy());
+                return false;
+            }
+        };
         let heading: [&[u8]; 3] = [b"script ", name.as_encoded_bytes(), b"\n"];
         write(if index > 0 { b"\n" } else { b"" });
         write(&heading.concat());
-        match fs::read(name) {
-            Ok(input) => {
-                let (printed, is_well) = print(script::read(&input));
-                write(printed.as_bytes());
-                all_well &= is_well;
-            }
-            Err(error) => {
-                eprintln!("rehearse: {}: {error}", name.to_string_lossy());
-                all_well = false;
-            }
-        }
+        let (printed, is_well) = print(script::read(&input));
+        write(printed.as_bytes());
+        all_well &= is_well;
     }
     all_well
 }
