@@ -1,2 +1,4 @@
+-- What a script says.
+pub mod Scripts
 -- Where a rehearsal begins.
 pub mod Rehearsal

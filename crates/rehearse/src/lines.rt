@@ -1,4 +1,8 @@
 // The lines of a script, read one after another.
+ghost use Rattle.std.specs.Prelude.{◌≡◌, [], ◌∷◌, ◌++◌, IfOk, OnOk};
+ghost use Rattle.rehearse.specs.Scripts.{settings_by, calls_by, marks_by, script_of};
+ghost use Rattle.rehearse.specs.declared.lines.Mark.{Mark};
+
 use entries::Lines;
 use order::Call;
 use script::{Line, Misread, Settings, read_line};
@@ -22,30 +26,44 @@ pub struct Script {
 }
 
 impl Script {
+    // Notes that a line makes a call, or what is wrong with it.
+    fn mark(&mut self, line: usize, misread: Option<Misread>) -> Result<(), AllocError>
+        ensures marks { OnOk result (self.new.marks.items ≡ self.old.marks.items ++ (record { line = line; misread = misread } ∷ [])) }
+        ensures rest { (self.new.at ≡ self.old.at) × (self.new.calls ≡ self.old.calls) }
+    {
+        self.marks.push(Mark { line, misread })?;
+        Ok(())
+    }
+
     // Notes what a line says.
-    fn take(&mut self, line: usize, read: Result<Option<Line>, Misread>) -> Result<(), AllocError> {
+    fn take(&mut self, line: usize, read: Result<Option<Line>, Misread>) -> Result<(), AllocError>
+        ensures at { OnOk result (self.new.at ≡ settings_by self.old.at read) }
+        ensures calls { OnOk result (self.new.calls.items ≡ self.old.calls.items ++ calls_by read) }
+        ensures marks { OnOk result (self.new.marks.items ≡ self.old.marks.items ++ marks_by line read) }
+    {
         match read {
-            Ok(None) => {}
+            Ok(None) => Ok(()),
             Ok(Some(said)) => {
                 self.at = self.at.with(said);
-                if let Line::Call(call) = said {
-                    self.calls.push(call)?;
-                    self.marks.push(Mark {
-                        line,
-                        misread: None,
-                    })?;
+                match said {
+                    Line::Call(call) => {
+                        self.calls.push(call)?;
+                        self.mark(line, None)
+                    }
+                    _ => Ok(()),
                 }
             }
-            Err(misread) => self.marks.push(Mark {
-                line,
-                misread: Some(misread),
-            })?,
+            Err(misread) => self.mark(line, Some(misread)),
         }
-        Ok(())
     }
 }
 
-pub fn read_script(heap: Global, text: &[u8]) -> Result<Script, AllocError> {
+// Reads a script, line after line.
+pub fn read_script(heap: Global, text: &[u8]) -> Result<Script, AllocError>
+    ensures at { IfOk result (λ s. s.at ≡ (script_of text.now).at) }
+    ensures calls { IfOk result (λ s. s.calls.items ≡ (script_of text.now).calls) }
+    ensures marks { IfOk result (λ s. s.marks.items ≡ (script_of text.now).marks) }
+{
     let mut script = Script {
         at: Settings::default(),
         calls: Vec::new(heap),
