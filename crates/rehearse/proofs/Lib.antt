@@ -1,2 +1,3 @@
+pub mod Hearing
 pub mod Turns
 pub mod Written

@@ -2,3 +2,5 @@
 pub mod Scripts
 -- Where a rehearsal begins.
 pub mod Rehearsal
+-- What is written down of its calls.
+pub mod Heard

@@ -1,4 +1,10 @@
 // The history since the last Open that was not refused: the parts that the halls have done.
+ghost use Rattle.std.specs.Prelude.{ℕ, List, map, IfOk, OnOk, IsPermutation, IsSortedBy, ◌≡◌};
+ghost use Rattle.book.specs.Model.{Page};
+ghost use Rattle.congress.specs.Outcomes.{outcome_number};
+ghost use Rattle.order.specs.History.{Issued, History as Written, new_history, issue_of, part_given, with_number, with_outcome, with_report, with_call, noted};
+ghost use Rattle.rehearse.specs.Heard.{heard, shown, sooner, KnowsIssues, Follows};
+
 use congress::{Outcome, Refusal, Report};
 use order::{Call, Said};
 use records::Operation;
@@ -24,7 +30,9 @@ struct History {
 }
 
 impl History {
-    fn new(heap: Global) -> History {
+    fn new(heap: Global) -> History
+        ensures { (first : ℕ → Page) → Follows result (new_history first) }
+    {
         History {
             issued: BTreeMap::new(heap),
             done: Vec::new(heap),
@@ -32,7 +40,9 @@ impl History {
     }
 
     // The operation of a transaction at a hall.
-    fn operation(&self, transaction: u32, hall: u8) -> Operation {
+    fn operation(&self, transaction: u32, hall: u8) -> Operation
+        ensures { (issues : List Issued) → KnowsIssues self.now.issued issues → result ≡ part_given (issue_of transaction issues) hall }
+    {
         match self.issued.get(&transaction) {
             Some(operations) => operations
                 .get(hall as usize)
@@ -43,7 +53,9 @@ impl History {
     }
 
     // Notes the operations of a transaction.
-    fn note_issue(&mut self, said: Said, operations: [Operation; 8]) -> Result<(), AllocError> {
+    fn note_issue(&mut self, said: Said, operations: [Operation; 8]) -> Result<(), AllocError>
+        ensures { (H : Written) (class halls : ℕ) → Follows self.old H → OnOk result (Follows self.new (with_number H class halls operations said)) }
+    {
         if let Said::Number(number) = said {
             self.issued.insert(number, operations)?;
         }
@@ -51,14 +63,18 @@ impl History {
     }
 
     // Notes a part that was done.
-    fn note_report(&mut self, said: Said) -> Result<(), AllocError> {
+    fn note_report(&mut self, said: Said) -> Result<(), AllocError>
+        ensures { (H : Written) → Follows self.old H → OnOk result (Follows self.new (with_report H said)) }
+    {
         match said {
             Said::Report(report) => self.note(report),
             _ => Ok(()),
         }
     }
 
-    fn note(&mut self, report: Report) -> Result<(), AllocError> {
+    fn note(&mut self, report: Report) -> Result<(), AllocError>
+        ensures { (H : Written) → Follows self.old H → OnOk result (Follows self.new (with_outcome H (outcome_number report.outcome) report)) }
+    {
         let Report {
             outcome,
             transaction,
@@ -79,16 +95,29 @@ impl History {
     }
 
     // Takes what a call told.
-    fn take(&mut self, call: Call, said: Said) -> Result<(), AllocError> {
+    fn take(&mut self, call: Call, said: Said) -> Result<(), AllocError>
+        ensures { (H : Written) → Follows self.old H → OnOk result (Follows self.new (with_call H H.first call said)) }
+    {
         match call {
             Call::Open { .. } => {
                 self.issued.clear();
                 self.done.clear();
             }
             Call::Issue { operations, .. } => self.note_issue(said, operations)?,
-            _ => self.note_report(said)?,
+            Call::Deliver { .. } | Call::Work { .. } => self.note_report(said)?,
+            Call::Clock { .. } | Call::Drop { .. } => {}
         }
         Ok(())
+    }
+
+    // Takes a call with what it told, if that is no refusal.
+    fn hear(&mut self, call: Call, told: Result<Said, Refusal>) -> Result<(), AllocError>
+        ensures { (H : Written) → Follows self.old H → OnOk result (Follows self.new (noted H H.first call told)) }
+    {
+        match told {
+            Ok(said) => self.take(call, said),
+            Err(_) => Ok(()),
+        }
     }
 }
 
@@ -97,11 +126,14 @@ pub fn history_of(
     heap: Global,
     calls: &[Call],
     told: &[Result<Said, Refusal>],
-) -> Result<Vec<Part>, AllocError> {
+) -> Result<Vec<Part>, AllocError>
+    ensures parts { (first : ℕ → Page) → IfOk result (λ done. IsPermutation (map shown (heard (new_history first) calls.now told.now).done) done.items) }
+    ensures order { IfOk result (λ done. IsSortedBy sooner done.items) }
+{
     let mut history = History::new(heap);
-    for (call, told) in calls.iter().zip(told.iter()) {
-        if let Ok(said) = told {
-            history.take(*call, *said)?;
+    for (place, call) in calls.iter().enumerate() {
+        if let Some(told) = told.get(place) {
+            history.hear(*call, *told)?;
         }
     }
     let History { mut done, .. } = history;
