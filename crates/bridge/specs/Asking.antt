@@ -40,8 +40,11 @@ asked o =
     (Err UnknownKind))))
 
 -- each deal has its own key, key 32 is the totals', and closing takes them all
+abbrev pub keys_of : ℕ → ℕ → ℕ
+keys_of kind deal =
+    cond (kind == 32 || kind == 33) (cond (nat_le deal 15) (2 ^ deal) 0)
+    (cond (kind == 34) (2 ^ 32 + 65535)
+    (cond (kind == 35) (2 ^ 32) 0))
+
 abbrev pub keys : Operation → ℕ
-keys o =
-    cond (o.kind == 32 || o.kind == 33) (cond (nat_le o.a 15) (2 ^ o.a) 0)
-    (cond (o.kind == 34) (2 ^ 32 + 65535)
-    (cond (o.kind == 35) (2 ^ 32) 0))
+keys o = keys_of o.kind o.a

@@ -5,7 +5,7 @@ use Rattle.book.proofs.Below.{sum_bound, length-table, table_all, length-rows, g
 use Rattle.book.proofs.Keys.{Held, held_one, held_below}
 use Rattle.book.specs.Model.{Page}
 use Rattle.book.specs.Numbers.{at}
-use Rattle.bridge.specs.Asking.{fair, asked_score, asked_line, asked, keys, Ask}
+use Rattle.bridge.specs.Asking.{fair, asked_score, asked_line, asked, keys_of, keys, Ask}
 use Rattle.bridge.specs.Page.{line_numbers, deal_numbers, line_from, read_line, read_deal, sized, bridge}
 use Rattle.bridge.specs.Points.{Line, line, has_pair, won, against, points_from, points, east_west_at, east_west, deal_points}
 use Rattle.bridge.specs.Rules.{changed}
@@ -20,7 +20,6 @@ use Rattle.rounds.specs.declared.Fault.{Fault}
 use Rattle.rounds.specs.declared.Fault.TheVariants.{NoPlace, NoParty, BadResult, UnknownKind}
 use Rattle.rounds.specs.declared.asks.Ask.TheVariants.{Cell, Close, Total}
 use Rattle.std.proofs.lemmas.Bool.{cond_both, cond-true, leb-true, eqb-true, or_left, or_right}
-use Rattle.std.proofs.lemmas.Bool.Decides.{nat_tests}
 
 -- No deal gives a total more than 128.
 module _ (most : ℕ) where
@@ -73,10 +72,10 @@ deal_keys : (o : Operation) → (o.kind == 32 || o.kind == 33) ≡ true → nat_
 deal_keys o kind low = subst (λ m. Held m o.a) (sym (cond-true (o.kind == 32 || o.kind == 33) _ _ kind ∙ cond-true (nat_le o.a 15) _ _ low)) (held_one o.a)
 
 close_keys : (o : Operation) → o.kind ≡ 34 → keys o ≡ 2 ^ 32 + 65535
-close_keys o kind = grind (arith, nat_tests)
+close_keys o kind = ap (λ k. keys_of k o.a) kind
 
 total_keys : (o : Operation) → o.kind ≡ 35 → keys o ≡ 2 ^ 32
-total_keys o kind = grind (arith, nat_tests)
+total_keys o kind = ap (λ k. keys_of k o.a) kind
 
 covers : (o : Operation) → Covers (keys o) (asked o)
 covers o =

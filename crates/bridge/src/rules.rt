@@ -1,5 +1,5 @@
 // What each operation answers and makes of a deal: the book of bridge as a game of rounds.
-ghost use Rattle.std.proofs.Common.{rules};
+ghost use Rattle.std.proofs.Common.{arith};
 ghost use Rattle.std.specs.Prelude.{◌≡◌, refl};
 ghost use Rattle.bridge.specs.Laws.{bridge_fits};
 ghost use Rattle.bridge.specs.Page.{line_numbers, bridge};
@@ -65,11 +65,11 @@ impl Cell<DEALS, TOTALS> for Deal {
 
     ghost wide = { refl };
 
-    ghost has_numbers = { Prim.search rules };
+    ghost has_numbers = { Prim.omega arith };
 
     ghost fits = { bridge_fits };
 
-    ghost roomy = { Prim.search rules };
+    ghost roomy = { Prim.omega arith };
 
     fn empty() -> Deal {
         Deal {

@@ -66,8 +66,11 @@ asked o =
     (Err UnknownKind)))
 
 -- each board has its own key, key 32 is the totals', and closing takes them all
+abbrev pub keys_of : ℕ → ℕ → ℕ
+keys_of kind board =
+    cond (nat_le 16 kind && nat_le kind 18) (cond (nat_le board 31) (2 ^ board) 0)
+    (cond (kind == 19) (2 ^ 33 - 1)
+    (cond (kind == 20) (2 ^ 32) 0))
+
 abbrev pub keys : Operation → ℕ
-keys o =
-    cond (of_board o) (cond (nat_le o.a 31) (2 ^ o.a) 0)
-    (cond (o.kind == 19) (2 ^ 33 - 1)
-    (cond (o.kind == 20) (2 ^ 32) 0))
+keys o = keys_of o.kind o.a

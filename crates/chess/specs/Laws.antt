@@ -4,7 +4,7 @@ use Rattle.std.proofs.Common.{ap, ap₂, sym, subst, ◌∙◌, arith}
 use Rattle.book.proofs.Keys.{Held, held_one, held_below}
 use Rattle.book.specs.Model.{Page}
 use Rattle.book.specs.Numbers.{natural, at}
-use Rattle.chess.specs.Asking.{Asked, player, outcome, seating, at_board, of_board, of_cell, asked, keys}
+use Rattle.chess.specs.Asking.{Asked, player, outcome, seating, at_board, of_board, of_cell, asked, keys_of, keys}
 use Rattle.chess.specs.Page.{game_numbers, board_numbers, board_from, read_board, chess}
 use Rattle.chess.specs.Rules.{result_number, white_points, black_points, game_gain}
 use Rattle.chess.specs.declared.asking.BoardAsk.{BoardAsk}
@@ -105,10 +105,10 @@ board_keys : (o : Operation) → of_board o ≡ true → nat_le o.a 31 ≡ true 
 board_keys o board low = subst (λ set. Held set o.a) (sym (cond-true (of_board o) _ _ board ∙ cond-true (nat_le o.a 31) (2 ^ o.a) 0 low)) (held_one o.a)
 
 close_keys : (o : Operation) → o.kind ≡ 19 → keys o ≡ 2 ^ 33 - 1
-close_keys o kind = ap (λ k. cond (nat_le 16 k && nat_le k 18) (cond (nat_le o.a 31) (2 ^ o.a) 0) (cond (k == 19) (2 ^ 33 - 1) (cond (k == 20) (2 ^ 32) 0))) kind
+close_keys o kind = ap (λ k. keys_of k o.a) kind
 
 total_keys : (o : Operation) → o.kind ≡ 20 → keys o ≡ 2 ^ 32
-total_keys o kind = ap (λ k. cond (nat_le 16 k && nat_le k 18) (cond (nat_le o.a 31) (2 ^ o.a) 0) (cond (k == 19) (2 ^ 33 - 1) (cond (k == 20) (2 ^ 32) 0))) kind
+total_keys o kind = ap (λ k. keys_of k o.a) kind
 
 covers : (o : Operation) → Covers (keys o) (asked o)
 covers o =

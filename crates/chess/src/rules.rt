@@ -1,5 +1,5 @@
 // What each operation answers and makes of a board.
-ghost use Rattle.std.proofs.Common.{rules};
+ghost use Rattle.std.proofs.Common.{arith};
 ghost use Rattle.std.specs.Prelude.{◌≡◌, ◌≤◌, refl};
 ghost use Rattle.chess.specs.Laws.{chess_fits};
 ghost use Rattle.chess.specs.Page.{game_numbers, chess};
@@ -100,11 +100,11 @@ impl Cell<BOARDS, PLAYERS> for Board {
 
     ghost wide = { refl };
 
-    ghost has_numbers = { Prim.search rules };
+    ghost has_numbers = { Prim.omega arith };
 
     ghost fits = { chess_fits };
 
-    ghost roomy = { Prim.search rules };
+    ghost roomy = { Prim.omega arith };
 
     fn empty() -> Board {
         Board { game: None }
