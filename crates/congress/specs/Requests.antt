@@ -1,5 +1,5 @@
 -- Deliver, of a request.
-use Rattle.std.specs.Prelude.{ℕ, ◌^◌, max, Bool, true, false, cond, ◌&&◌, List, [], ◌∷◌, ◌++◌, length, Some, None, Option, Result, nat_le, slice_index_or, slice_set, unwrap_or}
+use Rattle.std.specs.Prelude.{ℕ, ◌^◌, max, Bool, true, false, cond, ◌&&◌, List, [], ◌∷◌, ◌++◌, length, Some, None, Option, Ok, Err, Result, nat_le, slice_index_or, slice_set, unwrap_or}
 use Rattle.book.specs.Model.{Model, told, turned}
 use Rattle.congress.specs.Kept.{locks}
 use Rattle.congress.specs.Queue.{any_at, held_at}
@@ -9,6 +9,7 @@ use Rattle.congress.specs.Tables.{with_last, with_mode, with_taken}
 use Rattle.congress.specs.Telling.{refuse, tell, pass_over}
 use Rattle.congress.specs.declared.fates.Fate.{Fate}
 use Rattle.congress.specs.declared.fates.Fate.TheVariants.{Enters, Runs, Conflicts, Aborts}
+use Rattle.congress.specs.declared.outcomes.Outcome.{Outcome}
 use Rattle.congress.specs.declared.outcomes.Outcome.TheVariants.{Entered, DoneAtOnce, MetConflict, Aborted}
 use Rattle.congress.specs.declared.outcomes.Report.{Report}
 use Rattle.congress.specs.declared.refusals.Refusal.{Refusal}
@@ -124,16 +125,19 @@ running m s r stamp =
 abbrev pub recording : Scene → Request → Scene
 recording s r = with_state s (with_hall s.world.state r.to (recorded (hall_of s r) r.transaction))
 
+-- a part that falls: its hall votes so, and replies with this answer
+abbrev pub fallen : Scene → Request → ℕ → Status → Outcome → Answer → Result Report Refusal × Scene
+fallen s r stamp status outcome answer =
+    tell (sending (recording s r) (falling r stamp status answer)) outcome r.transaction r.to stamp answer
+
 -- What is told, and what is left.
 abbrev pub taken_as : Model → Scene → Request → ℕ → Fate → Result Report Refusal × Scene
 taken_as m s r stamp Enters =
     tell (sending (entering m s r stamp) (sent m s r stamp Enters)) Entered r.transaction r.to stamp no_answer
 taken_as m s r stamp Runs =
     tell (sending (running m s r stamp) (sent m s r stamp Runs)) DoneAtOnce r.transaction r.to stamp (verdict m s r)
-taken_as m s r stamp Conflicts =
-    tell (sending (recording s r) (sent m s r stamp Conflicts)) MetConflict r.transaction r.to stamp no_answer
-taken_as m s r stamp (Aborts answer) =
-    tell (sending (recording s r) (sent m s r stamp (Aborts answer))) Aborted r.transaction r.to stamp answer
+taken_as m s r stamp Conflicts = fallen s r stamp Conflict MetConflict no_answer
+taken_as m s r stamp (Aborts answer) = fallen s r stamp Abort Aborted answer
 
 abbrev pub needs_entry : Fate → Bool
 needs_entry Enters = true
@@ -144,6 +148,13 @@ needs_entry (Aborts answer) = false
 -- 64 entries are all that may wait
 abbrev pub full : Scene → Bool
 full s = nat_le 64 (length s.world.state.entries)
+
+-- whether there is a place for its entry and room for what it sends
+abbrev pub places_for : Model → Scene → Request → ℕ → Fate → Result (Unit {0}) Refusal
+places_for m s r stamp f =
+    cond (needs_entry f && full s) (Err QueueFull)
+    (cond (lacks_room s.world (length (sent m s r stamp f))) (Err NoRoom)
+    (Ok tt))
 
 abbrev pub take_as : Model → Scene → Request → ℕ → Fate → Result Report Refusal × Scene
 take_as m s r stamp f =

@@ -3,9 +3,8 @@ ghost use Rattle.std.specs.Prelude.{◌≡◌, ℕ, ◌<◌, ◌≤◌, true, fa
 ghost use Rattle.book.specs.Model.{Page};
 ghost use Rattle.congress.specs.Kept.{kept};
 ghost use Rattle.congress.specs.Meaning.{state, with_post, scene_of};
-ghost use Rattle.congress.specs.Requests.{recorded, locked_for, entry_for, falling, sent, recording, taken_as, take_as, fate, needs_entry, full, is_old, request_step};
-ghost use Rattle.congress.specs.State.{Scene, hall_at, with_hall, with_entries, lacks_room, sending};
-ghost use Rattle.congress.specs.Telling.{tell};
+ghost use Rattle.congress.specs.Requests.{recorded, locked_for, entry_for, falling, sent, fallen, taken_as, places_for, take_as, fate, needs_entry, full, is_old, request_step};
+ghost use Rattle.congress.specs.State.{Scene, hall_at, with_hall, with_entries, lacks_room};
 ghost use Rattle.congress.specs.declared.fates.Fate.TheVariants.{Enters, Runs};
 ghost use Rattle.records.specs.Halls.{names};
 
@@ -195,7 +194,7 @@ impl Congress {
         requires exists { request.to < 8 }
         requires new { is_old (hall_at (state self.old) request.to) request.transaction ≡ false }
         requires room { lacks_room (with_post self.old post.old) (length (falling request stamp status answer)) ≡ false }
-        ensures { (pages : ℕ → Page) → (Ok result, scene_of self.new post.new pages) ≡ tell (sending (recording (scene_of self.old post.old pages) request) (falling request stamp status answer)) outcome request.transaction request.to stamp answer }
+        ensures { (pages : ℕ → Page) → (Ok result, scene_of self.new post.new pages) ≡ fallen (scene_of self.old post.old pages) request stamp status outcome answer }
     {
         let hall = self.halls[request.to as usize];
         self.set_hall(request.to, hall.recorded(request.transaction));
@@ -238,7 +237,7 @@ impl Congress {
         fate: Fate,
     ) -> Result<(), Refusal>
         requires { names request.halls request.to ≡ true }
-        ensures { result ≡ cond (needs_entry fate && full (scene_of self.now post.now (B.pages book.now))) (Err Refusal.QueueFull) (cond (lacks_room (with_post self.now post.now) (length (sent B.model (scene_of self.now post.now (B.pages book.now)) request stamp fate))) (Err Refusal.NoRoom) (Ok tt)) }
+        ensures { result ≡ places_for B.model (scene_of self.now post.now (B.pages book.now)) request stamp fate }
     {
         if matches!(fate, Fate::Enters) && self.is_full() {
             return Err(Refusal::QueueFull);
