@@ -64,8 +64,40 @@ kept_records halls es h t last k new =
 pub kept_last : (halls : List Hall) (es : List Entry) (h last : ℕ) → kept halls es ≡ true → kept (set halls h (with_last (get_or halls h no_hall) last)) es ≡ true
 kept_last halls es h last k = kept_hall halls es h (with_last (get_or halls h no_hall) last) k (λ c. omega arith) (λ y. inl y)
 
--- What is known of a hall where a request enters.
+-- What is known of a hall where a request enters: no key of it is held there, and a coordinated one finds no entry.
+module _ (m : Model) (s : Scene) (r : Request) where
+  abbrev pub Free : Type 0
+  Free = locks (hall_of s r).mode ≡ true → held_at r.to (m.keys r.operation) s.world.state.entries ≡ false
+
+  abbrev pub Empty : Type 0
+  Empty = locks (hall_of s r).mode ≡ false → class_in r ≡ Coordinated → any_at r.to s.world.state.entries ≡ false
+
 module _ (m : Model) (s : Scene) (r : Request) (enters : needs_entry (fate m s r) ≡ true) where
+  no_entry_needed : false ≡ true → ⊥
+  no_entry_needed e = true≢false (sym e)
+
+  free : Free m s r
+  free k =
+      cond_both (held_at r.to (m.keys r.operation) s.world.state.entries) Conflicts (fate_free (verdict m s r) (class_in r))
+      (λ (f : Fate). needs_entry f ≡ true → held_at r.to (m.keys r.operation) s.world.state.entries ≡ false)
+      (λ _ e. absurd (no_entry_needed e)) (λ n _. n)
+      (ap needs_entry (sym (cond-true (locks (hall_of s r).mode) (fate_locking m s r) (fate_timestamp m s r (class_in r)) k)) ∙ enters)
+
+  timestamp : (c : Class) → c ≡ Coordinated → needs_entry (fate_timestamp m s r c) ≡ true → any_at r.to s.world.state.entries ≡ false
+  timestamp Single c e = absurd (single_not c)
+  timestamp Independent c e = absurd (independent_not c)
+  timestamp Coordinated c e =
+      cond_both (any_at r.to s.world.state.entries) fate_busy (by_verdict (verdict m s r))
+      (λ (f : Fate). needs_entry f ≡ true → any_at r.to s.world.state.entries ≡ false)
+      (λ _ e. absurd (no_entry_needed e)) (λ n _. n) e
+
+  empty : Empty m s r
+  empty k c =
+      timestamp (class_in r) c
+      (ap needs_entry (sym (cond-false (locks (hall_of s r).mode) (fate_locking m s r) (fate_timestamp m s r (class_in r)) k)) ∙ enters)
+
+-- The request enters.
+module _ (m : Model) (s : Scene) (r : Request) (free : Free m s r) (empty : Empty m s r) where
   abbrev es : List Entry
   es = s.world.state.entries
 
@@ -74,27 +106,6 @@ module _ (m : Model) (s : Scene) (r : Request) (enters : needs_entry (fate m s r
 
   abbrev keys : ℕ
   keys = m.keys r.operation
-
-  no_entry_needed : false ≡ true → ⊥
-  no_entry_needed e = true≢false (sym e)
-
-  pub free : locks (hall_of s r).mode ≡ true → held_at r.to (m.keys r.operation) s.world.state.entries ≡ false
-  free k =
-      cond_both (held_at r.to keys es) Conflicts (fate_free (verdict m s r) (class_in r)) (λ (f : Fate). needs_entry f ≡ true → held_at r.to keys es ≡ false)
-      (λ _ e. absurd (no_entry_needed e)) (λ n _. n)
-      (ap needs_entry (sym (cond-true (locks (hall_of s r).mode) (fate_locking m s r) (fate_timestamp m s r (class_in r)) k)) ∙ enters)
-
-  timestamp : (c : Class) → c ≡ Coordinated → needs_entry (fate_timestamp m s r c) ≡ true → any_at r.to es ≡ false
-  timestamp Single c e = absurd (single_not c)
-  timestamp Independent c e = absurd (independent_not c)
-  timestamp Coordinated c e =
-      cond_both (any_at r.to es) fate_busy (by_verdict (verdict m s r)) (λ (f : Fate). needs_entry f ≡ true → any_at r.to es ≡ false)
-      (λ _ e. absurd (no_entry_needed e)) (λ n _. n) e
-
-  pub empty : locks (hall_of s r).mode ≡ false → class_in r ≡ Coordinated → any_at r.to s.world.state.entries ≡ false
-  empty k c =
-      timestamp (class_in r) c
-      (ap needs_entry (sym (cond-false (locks (hall_of s r).mode) (fate_locking m s r) (fate_timestamp m s r (class_in r)) k)) ∙ enters)
 
   -- the hall that keeps the part
   abbrev hall' : Hall
@@ -115,8 +126,8 @@ module _ (m : Model) (s : Scene) (r : Request) (enters : needs_entry (fate m s r
       (λ y. elim (mode_stays (class_in r) refl) [ inl same ↦ inl (same ∙ y) | inr none ↦ inr none ])
 
   coordinated_locks : (mode : Mode) (c : Class) → coordinated c ≡ true → locks (mode_for mode c) ≡ true
-  coordinated_locks mode Single e = absurd (no_entry_needed e)
-  coordinated_locks mode Independent e = absurd (no_entry_needed e)
+  coordinated_locks mode Single e = absurd (true≢false (sym e))
+  coordinated_locks mode Independent e = absurd (true≢false (sym e))
   coordinated_locks mode Coordinated e = refl
 
   -- the new entry is apart from each that waits
@@ -157,16 +168,22 @@ module _ (m : Model) (s : Scene) (r : Request) (enters : needs_entry (fate m s r
           (λ y. not_held same (free (was_locking same y)))
           (λ _. and_zero_r e.keys)
 
-  pub kept_enters : (stamp : ℕ) → kept s.world.state.halls s.world.state.entries ≡ true → is_old (hall_of s r) r.transaction ≡ false → names r.halls r.to ≡ true
+  pub enters_kept : (stamp : ℕ) → kept s.world.state.halls s.world.state.entries ≡ true → is_old (hall_of s r) r.transaction ≡ false → names r.halls r.to ≡ true
       → r.to < length s.world.state.halls → console r.transaction < length (hall_of s r).taken
       → kept (set s.world.state.halls r.to (locked_for (recorded (hall_of s r) r.transaction) (class_in r))) (s.world.state.entries ++ (entry_for m (hall_of s r) r stamp ∷ [])) ≡ true
-  kept_enters stamp k new named inside wide =
+  enters_kept stamp k new named inside wide =
       kept_push (set halls r.to hall') es (entry_for m (hall_of s r) r stamp) (hall_kept k new)
       (voted_new (entry_for m (hall_of s r) r stamp) refl named)
       (subst (λ (x : Hall). suits x (entry_for m (hall_of s r) r stamp) ≡ true) (sym (get_or-set_same halls r.to hall' no_hall inside))
       (suits_from hall' (entry_for m (hall_of s r) r stamp) (coordinated_locks (hall_of s r).mode (class_in r))
       (let e = get_or-set_same (hall_of s r).taken (console r.transaction) (sequence r.transaction) 0 wide in omega arith)))
       (new_apart k new stamp)
+
+pub kept_enters : (m : Model) (s : Scene) (r : Request) → needs_entry (fate m s r) ≡ true → (stamp : ℕ) → kept s.world.state.halls s.world.state.entries ≡ true
+    → is_old (hall_of s r) r.transaction ≡ false → names r.halls r.to ≡ true
+    → r.to < length s.world.state.halls → console r.transaction < length (hall_of s r).taken
+    → kept (set s.world.state.halls r.to (locked_for (recorded (hall_of s r) r.transaction) (class_in r))) (s.world.state.entries ++ (entry_for m (hall_of s r) r stamp ∷ [])) ≡ true
+kept_enters m s r enters = enters_kept m s r (free m s r enters) (empty m s r enters)
 
 -- How many messages a request sends.
 

@@ -6,6 +6,7 @@ pub mod Plain
 pub mod Queue
 pub mod Posting
 -- what a call does
+pub mod Lawful
 pub mod Happens
 pub mod Cases
 -- what every congress keeps

@@ -19,7 +19,8 @@ use Rattle.order.proofs.Issue.{issues_kept}
 use Rattle.order.proofs.Moves.{call_moves}
 use Rattle.order.proofs.Posting.{in_post}
 use Rattle.order.proofs.Removal.{Guard, guard_begins, guard_opens, guard_stays, guard_gives}
-use Rattle.order.proofs.Request.{LawfulRequest, lawful_is, stamp_above, falls_now, comes_in, runs_at_once}
+use Rattle.order.proofs.Lawful.{LawfulRequest, lawful_is, vote_to_open}
+use Rattle.order.proofs.Request.{stamp_above, falls_now, comes_in, runs_at_once}
 use Rattle.order.proofs.Sound.{Sound, opened_sound, sound_step, well_kept}
 use Rattle.order.proofs.Vote.{counts_kept, removes_kept}
 use Rattle.order.proofs.Work.{works_kept}
@@ -31,12 +32,11 @@ use Rattle.order.specs.declared.calls.Call.{Call}
 use Rattle.order.specs.declared.calls.Call.TheVariants.{Open}
 use Rattle.order.specs.declared.calls.Said.{Said}
 use Rattle.order.specs.declared.calls.Said.TheVariants.{Nothing}
-use Rattle.records.specs.Transactions.{transaction}
 use Rattle.records.specs.declared.messages.Message.{Message}
 use Rattle.records.specs.declared.messages.Request.{Request}
 use Rattle.records.specs.declared.messages.Vote.{Vote}
 use Rattle.roll.specs.Over.{IsRoll}
-use Rattle.std.proofs.lemmas.Bool.{cond-false, and_parts, ltb-true}
+use Rattle.std.proofs.lemmas.Bool.{cond-false}
 
 -- what the halls have said after a call
 abbrev pub said_after : {m : Model} {s : Scene} {c : Call} {st : Result Said Refusal × Scene} → Sayings → Happens m s c st → Sayings
@@ -70,10 +70,7 @@ module _ (m : Model) (laws : Lawful m) (said : Sayings) (s : Scene) (H : History
 
   hall_inside : {place : ℕ} {v : Vote} {i : ℕ} {e : Entry} → Voted s place v i e → v.to < length s.world.state.halls
   hall_inside {place} {v} met =
-      let one = and_parts (transaction v.transaction) _ met.delivered.law in
-      let two = and_parts (ltb v.from s.world.state.opened) _ one.1 in
-      let three = and_parts (ltb v.to s.world.state.opened) _ two.1 in
-      let l = ltb-true v.to s.world.state.opened three.0 in
+      let l = vote_to_open s.world.state.opened v met.delivered.law in
       let few = sound.few in
       let eight = sound.eight in
       omega arith

@@ -1,6 +1,6 @@
 -- Deliver, of a request.
-use Rattle.std.proofs.Common.{◌≡◌, ℕ, ◌+◌, ◌^◌, ◌<◌, ◌≤◌, max, true, ltb, eqb, List, [], ◌∷◌, ◌++◌, length, get_or, set, Some, None, Option, refl, sym, ap, ◌∙◌, subst, inl, inr, arith, get_or-set_other, get_or-set_same}
-use Rattle.std.specs.Prelude.{bit_and, unwrap_or}
+use Rattle.std.proofs.Common.{◌≡◌, ℕ, ◌+◌, ◌^◌, ◌<◌, ◌≤◌, max, true, ltb, List, [], ◌∷◌, ◌++◌, length, get_or, set, Some, None, Option, refl, sym, ap, ◌∙◌, subst, inl, inr, arith, get_or-set_other, get_or-set_same}
+use Rattle.std.specs.Prelude.{bit_and}
 use Rattle.book.proofs.Apart.{apart_sym}
 use Rattle.book.specs.Apart.{Apart}
 use Rattle.book.specs.Model.{Page, Model, Lawful, turned}
@@ -20,50 +20,25 @@ use Rattle.order.proofs.Easy.{sending_kept}
 use Rattle.order.proofs.Effects.{says, says_here, above_last}
 use Rattle.order.proofs.Happens.{Room, MayEnter, MayDo}
 use Rattle.order.proofs.Invariant.{Saying, silent, agreed, denied, Sayings, Meant, Genuine, Counted, Agreed, Standing, Holds, last_of, locking_of, taken_of, Kept}
+use Rattle.order.proofs.Lawful.{LawfulRequest}
 use Rattle.order.proofs.Lists.{some_is, none_is_some, in_push, in_one}
 use Rattle.order.proofs.Pages.{put, told_is, turned_is}
 use Rattle.order.proofs.Posting.{in_to_each}
 use Rattle.order.proofs.Queue.{any_none, held_none}
-use Rattle.order.proofs.Sound.{Sound}
+use Rattle.order.proofs.Sound.{Sound, recorded_in}
 use Rattle.order.specs.History.{Issued, History, issue_of, part_given, is_coordinated, part_done, with_done, with_fallen}
 use Rattle.order.specs.Plain.{Part}
 use Rattle.order.specs.Promises.{◌∈◌}
-use Rattle.records.specs.Classes.{class_number, class_of}
-use Rattle.records.specs.Halls.{names, fit_class, exist, fit}
-use Rattle.records.specs.Messages.{request_lawful}
-use Rattle.records.specs.Transactions.{console, sequence, transaction, next_stamp}
+use Rattle.records.specs.Classes.{class_number}
+use Rattle.records.specs.Halls.{names}
+use Rattle.records.specs.Transactions.{console, sequence, next_stamp}
 use Rattle.records.specs.declared.Answer.{Answer}
 use Rattle.records.specs.declared.Operation.{Operation}
 use Rattle.records.specs.declared.classes.Class.{Class}
 use Rattle.records.specs.declared.classes.Class.TheVariants.{Single, Independent, Coordinated}
 use Rattle.records.specs.declared.messages.Message.{Message}
 use Rattle.records.specs.declared.messages.Request.{Request}
-use Rattle.std.proofs.lemmas.Bool.{cond_both, cond-true, and_parts, eqb-true, eq-eqb, ltb-true, cases_Bool, cases_eq, true≢false}
-
--- What a lawful request and its stamp are.
-
-class_known : (n halls : ℕ) → fit_class (class_of n) halls ≡ true → class_number (unwrap_or (class_of n) Single) ≡ n
-class_known n halls =
-    cond_both (eqb n 1) (Some Single) _ P (λ e _. sym (eqb-true n 1 e)) (λ _.
-    cond_both (eqb n 2) (Some Independent) _ P (λ e _. sym (eqb-true n 2 e)) (λ _.
-    cond_both (eqb n 3) (Some Coordinated) None P (λ e _. sym (eqb-true n 3 e)) (λ _ f. absurd (true≢false (sym f)))))
-  where
-    P : Option Class → Type 0
-    P o = fit_class o halls ≡ true → class_number (unwrap_or o Single) ≡ n
-
-pub record LawfulRequest (number : ℕ) (r : Request) : Type 0 where
-  pub exists : r.to < number
-  pub named : names r.halls r.to ≡ true
-  pub class_is : class_number (class_in r) ≡ r.class
-
-pub lawful_is : (number : ℕ) (r : Request) → request_lawful number r ≡ true → LawfulRequest number r
-lawful_is number r h =
-    let one = and_parts (transaction r.transaction) _ h in
-    let two = and_parts (ltb r.to number) _ one.1 in
-    let three = and_parts (fit number r.class r.halls) _ two.1 in
-    let four = and_parts (names r.halls r.to) _ three.1 in
-    let class = and_parts (exist number r.halls) (fit_class (class_of r.class) r.halls) three.0 in
-    record { exists = ltb-true r.to number two.0; named = four.0; class_is = class_known r.class r.halls class.1 }
+use Rattle.std.proofs.lemmas.Bool.{cond_both, cond-true, eqb-true, eq-eqb, cases_Bool, cases_eq}
 
 -- a stamp is above the hall's last
 pub stamp_above : (high last clock n : ℕ) → next_stamp high last clock ≡ Some n → last < n
@@ -132,7 +107,7 @@ module _ {m : Model} {said : Sayings} {s : Scene} {H : History} (sound : Sound s
 
   not_waiting : (e : Entry) → e ∈ st.entries → e.hall ≡ r.to → e.transaction ≡ t → ⊥
   not_waiting e i a b =
-      let c = (sound.each e i).recorded in
+      let c = recorded_in st sound e i in
       let d : get_or (taken_of st e.hall) (console e.transaction) 0 ≡ get_or x.taken (console t) 0 =
       ap (λ (w : ℕ). get_or (taken_of st w) (console e.transaction) 0) a ∙ ap (λ (w : ℕ). get_or x.taken (console w) 0) b in
       let f : sequence e.transaction ≡ sequence t = ap sequence b in
