@@ -20,23 +20,10 @@ use Rattle.records.specs.declared.Operation.{Operation}
 use Rattle.roll.specs.Over.{IsRoll}
 use Rattle.std.proofs.lemmas.Bool.{cond_both}
 
--- x removes grant g at hall h
-pub record TakesOff (x : Act) (h g : ℕ) : Type 0 where
-  pub hall : x.hall ≡ h
-  pub kind : x.operation.kind ≡ 2
-  pub grant : x.operation.a ≡ g
-
--- x appoints token t to grant g at hall h
-pub record PutsOn (x : Act) (h g t : ℕ) : Type 0 where
-  pub hall : x.hall ≡ h
-  pub kind : x.operation.kind ≡ 1
-  pub grant : x.operation.a ≡ g
-  pub token : x.operation.c ≡ pos t
-
 -- looking back, an appointment of token t is met before any removal
 abbrev pub Guarded : ℕ → ℕ → ℕ → List Act → Type 0
 Guarded h g t [] = Unit {0}
-Guarded h g t (x ∷ l) = PutsOn x h g t ⊎ ((TakesOff x h g → ⊥) × Guarded h g t l)
+Guarded h g t (x ∷ l) = Appoints x h g t ⊎ ((Removes x h g → ⊥) × Guarded h g t l)
 
 abbrev pub AllGuarded : List Act → Type 0
 AllGuarded [] = Unit {0}
@@ -55,13 +42,12 @@ Guard p = Both p.acts p.now.pages
 
 -- What a guarded log promises.
 
-found_between : (between earlier : List Act) (w r : Act) → Guarded w.hall w.operation.grant w.operation.token (between ++ (r ∷ earlier)) → Removes r w
-    → (x : Act) × (x ∈ between) × Appoints x w
-found_between [] earlier w r (inl p) removes = let one = p.kind in let two = removes.kind in absurd (omega arith)
-found_between [] earlier w r (inr k) removes = absurd (k.0 (record { hall = removes.hall; kind = removes.kind; grant = removes.grant }))
-found_between (x ∷ xs) earlier w r (inl p) removes =
-    (x, inl refl, record { hall = p.hall; kind = p.kind; grant = p.grant; token = p.token })
-found_between (x ∷ xs) earlier w r (inr k) removes = let f = found_between xs earlier w r k.1 removes in (f.0, inr f.1, f.2)
+found_between : (between earlier : List Act) (r : Act) (h g t : ℕ) → Guarded h g t (between ++ (r ∷ earlier)) → Removes r h g
+    → (x : Act) × (x ∈ between) × Appoints x h g t
+found_between [] earlier r h g t (inl p) removes = let one = p.kind in let two = removes.kind in absurd (omega arith)
+found_between [] earlier r h g t (inr k) removes = absurd (k.0 removes)
+found_between (x ∷ xs) earlier r h g t (inl p) removes = (x, inl refl, p)
+found_between (x ∷ xs) earlier r h g t (inr k) removes = let f = found_between xs earlier r h g t k.1 removes in (f.0, inr f.1, f.2)
 
 guarded_tail : (later rest : List Act) → AllGuarded (later ++ rest) → AllGuarded rest
 guarded_tail [] rest all = all
@@ -69,7 +55,7 @@ guarded_tail (x ∷ xs) rest all = guarded_tail xs rest all.1
 
 pub guard_gives : (p : Past) → Guard p → RemovalHolds p
 guard_gives p guard later between earlier w r e removes =
-    found_between between earlier w r (guarded_tail later (w ∷ (between ++ (r ∷ earlier))) (subst AllGuarded e guard.0)).0 removes
+    found_between between earlier r w.hall w.operation.grant w.operation.token (guarded_tail later (w ∷ (between ++ (r ∷ earlier))) (subst AllGuarded e guard.0)).0 removes
 
 pub guard_begins : (s : Scene) → Guard (beginning s)
 guard_begins s = (tt, λ h g t low some stands. tt)
@@ -93,12 +79,12 @@ module _ (m : Model) (lawful : Lawful m) (roll : IsRoll m) (l : List Act) (pages
     act_guarded = let b = well_borne m roll (pages h) o (own h) done in both.1 h o.grant o.token b.low b.some b.token
 
     elsewhere : (k g t : ℕ) → (k ≡ h → ⊥) → Guarded k g t l → Guarded k g t (act h o ∷ l)
-    elsewhere k g t n guarded = inr (λ x. n (sym x.hall), guarded)
+    elsewhere k g t n guarded = inr (λ x. n (sym x.at), guarded)
 
     here : (g t : ℕ) → g < 16 → (t ≡ 0 → ⊥) → (z : ℤ) → z ≡ pos t → TokenNow (pages h) o g z → Guarded h g t (act h o ∷ l)
-    here g t low some z e (same q n) = inr (λ x. n x.kind x.grant, both.1 h g t low some (sym q ∙ e))
+    here g t low some z e (same q n) = inr (λ x. n x.kind x.entry, both.1 h g t low some (sym q ∙ e))
     here g t low some z e (gone q) = absurd (some (pos_is (sym e ∙ q)))
-    here g t low some z e (given k a q) = inl (record { hall = refl; kind = k; grant = a; token = sym q ∙ e })
+    here g t low some z e (given k a q) = inl (record { at = refl; kind = k; entry = a; bears = sym q ∙ e })
 
     standing_more : Standing (act h o ∷ l) (put pages h (m.next (pages h) o))
     standing_more k g t low some =

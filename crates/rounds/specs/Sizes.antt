@@ -10,7 +10,7 @@ use Rattle.rounds.specs.Games.{Game}
 use Rattle.rounds.specs.Kept.{Sized, KeptSheet}
 use Rattle.rounds.specs.Pages.{read, blank}
 use Rattle.rounds.specs.Sheets.{cell, gain_at, gained, closed, says, changed, left, made, after}
-use Rattle.rounds.specs.Totals.{length-raised, small_raised, small_zeros, get_or-replicate_same}
+use Rattle.rounds.specs.Totals.{length-raised, small_raised, get_or-replicate_same}
 use Rattle.rounds.specs.declared.Fault.{Fault}
 use Rattle.rounds.specs.declared.asks.Ask.{Ask}
 use Rattle.rounds.specs.declared.asks.Ask.TheVariants.{Cell, Close, Total}
@@ -60,9 +60,6 @@ module _ {C A : Type 0} {cells totals layer : ℕ} (g : Game C A cells totals) (
 
   gained_few : (s : Sheet C cells totals) (i : ℕ) → gained g s i ≤ 2048
   gained_few s i = omega (arith, sum_bound (gain_at g s i) g.most cells (λ a. f.gains i (cell g s a)), f.most)
-
-  pub kept_blank : KeptSheet g (blank g)
-  kept_blank = record { sized = sized_blank; small = small_zeros 1 totals; early = omega arith }
 
   pub kept_closed : (s : Sheet C cells totals) → s.round ≤ 99 → KeptSheet g s → KeptSheet g (closed g s)
   kept_closed s last h = record {
