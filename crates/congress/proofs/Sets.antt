@@ -109,6 +109,9 @@ names_parts m k h = let p = and_parts (ltb k 8) (bit m k) h in (ltb-true k 8 p.0
 pub names_from : (m k : ℕ) → k < 8 → bit m k ≡ true → names m k ≡ true
 names_from m k l h = and_from (ltb k 8) (bit m k) (lt-ltb k 8 l) h
 
+pub names_none : (k : ℕ) → names 0 k ≡ true → ⊥
+names_none k h = bit_zero k (names_parts 0 k h).1
+
 pub names_or : (m n k : ℕ) → names (bit_or m n) k ≡ true → (names m k ≡ true) ⊎ (names n k ≡ true)
 names_or m n k h =
     let p = names_parts (bit_or m n) k h in

@@ -4,7 +4,7 @@ use Rattle.book.specs.Model.{Model, Lawful}
 use Rattle.congress.proofs.Sent.{sets_push}
 use Rattle.congress.specs.State.{Scene}
 use Rattle.congress.specs.declared.refusals.Refusal.{Refusal}
-use Rattle.order.proofs.Main.{always_one_order, always_all_or_none, always_keeps_well, always_removal_holds}
+use Rattle.order.proofs.Main.{always_one_order, always_all_or_none, always_confirmed_is_done, always_keeps_well, always_removal_holds}
 use Rattle.order.specs.Conduct.{told, Promised, BeginsWithOpen, AfterEach, LeadsOn}
 use Rattle.order.specs.Runs.{step, Past, beginning, one_call, run}
 use Rattle.order.specs.declared.calls.Call.{Call}
@@ -31,6 +31,7 @@ module _ (m : Model) (laws : Lawful m) (s : Scene) (own : (h : ℕ) → m.own (s
   opened_promised halls rest low high = record {
     one_order = always_one_order m laws s.pages own s.world.state s.world.post halls low high rest;
     all_or_none = always_all_or_none m laws s.pages own s.world.state s.world.post halls low high rest;
+    confirmed_is_done = always_confirmed_is_done m laws s.pages own s.world.state s.world.post halls low high rest;
     keeps_well = always_keeps_well m laws s.pages own s.world.state s.world.post halls low high rest;
     removal = λ roll. always_removal_holds m laws roll s.pages own s.world.state s.world.post halls low high rest;
   }

@@ -51,7 +51,7 @@ module _ {m : Model} {said : Sayings} {s : Scene} {H : History} (sound : Sound s
       let d : sequences s.world.state (console t) ≡ sequences s.world.state k = ap (sequences s.world.state) b in
       omega arith
 
-  more : More H.issues (new ∷ H.issues)
+  pub more : More H.issues (new ∷ H.issues)
   more = record {
     still = λ u i e. cond_both (eqb new.transaction u) (Some new) (issue_of u H.issues) (λ (o : Option Issued). o ≡ Some i)
         (λ n. absurd (fresh i (ap (λ (w : ℕ). issue_of w H.issues) (eqb-true new.transaction u n) ∙ e)))

@@ -21,6 +21,8 @@ pub mod Vote
 pub mod Request
 pub mod Work
 pub mod Gives
+-- what is confirmed
+pub mod Confirmed
 -- removals
 pub mod Tokens
 pub mod Moves

@@ -13,6 +13,7 @@ use Rattle.order.proofs.Changes.{confirms_kept}
 use Rattle.order.proofs.Easy.{opens_kept, drops_kept, clocks_kept, reply_kept}
 use Rattle.order.proofs.Effects.{says}
 use Rattle.order.proofs.Gives.{gives_one_order, gives_all_or_none}
+use Rattle.order.proofs.Confirmed.{Replying, opens_replying, replying_step}
 use Rattle.order.proofs.Happens.{Delivered, Asked, Voted, Happens}
 use Rattle.order.proofs.Invariant.{silent, agreed, denied, Sayings, Genuine, Kept}
 use Rattle.order.proofs.Issue.{issues_kept}
@@ -25,7 +26,7 @@ use Rattle.order.proofs.Sound.{Sound, opened_sound, sound_step, well_kept}
 use Rattle.order.proofs.Vote.{counts_kept, removes_kept}
 use Rattle.order.proofs.Work.{works_kept}
 use Rattle.order.specs.History.{History, new_history, noted}
-use Rattle.order.specs.Promises.{◌∈◌, OneOrder, AllOrNone, KeepsWell, Always}
+use Rattle.order.specs.Promises.{◌∈◌, OneOrder, AllOrNone, KeepsWell, Always, ConfirmedIsDone}
 use Rattle.order.specs.Removal.{RemovalHolds}
 use Rattle.order.specs.Runs.{saying, nothing, acts_of, step, Past, beginning, one_call, run}
 use Rattle.order.specs.declared.calls.Call.{Call}
@@ -99,6 +100,7 @@ pub record Stands (m : Model) (g : Past) : Type 0 where
   pub sound : Sound g.now.world.state
   pub said : Sayings
   pub kept : Kept m said g.now g.history
+  pub replying : Replying g.now g.history
 
 module _ (m : Model) (laws : Lawful m) where
   pub one_more : (c : Call) (g : Past) → Stands m g → Stands m (one_call m c g)
@@ -108,6 +110,7 @@ module _ (m : Model) (laws : Lawful m) where
         sound = sound_step w stands.sound;
         said = said_after stands.said w;
         kept = step_kept m laws stands.said g.now g.history stands.sound stands.kept w;
+        replying = replying_step stands.sound stands.kept stands.replying w;
       }
 
   pub all_stand : (cs : List Call) (g : Past) → Stands m g → Stands m (run m cs g)
@@ -127,7 +130,7 @@ pub opened_stands : (m : Model) (s : Scene) (halls : ℕ) → 1 ≤ halls → ha
 opened_stands m s halls low high own =
     subst (λ (st : Result Said Refusal × Scene). Stands m (record { now = st.1; history = noted (new_history s.pages) s.pages (Open halls) st.0; acts = acts_of [] st.0 ++ [] }))
     (sym (opens_so m s halls low high))
-    (record { sound = opened_sound halls high; said = λ _ _. silent; kept = opens_kept m s halls own })
+    (record { sound = opened_sound halls high; said = λ _ _. silent; kept = opens_kept m s halls own; replying = opens_replying m s halls })
 
 module _ (m : Model) (laws : Lawful m) (pages : ℕ → Page) (own : (h : ℕ) → m.own (pages h)) where
   -- a promise that follows from what stands holds after each call
@@ -140,6 +143,9 @@ module _ (m : Model) (laws : Lawful m) (pages : ℕ → Page) (own : (h : ℕ) �
 
   pub always_all_or_none : Always m pages AllOrNone
   always_all_or_none = always AllOrNone (λ g stands. gives_all_or_none m g stands.said stands.kept)
+
+  pub always_confirmed_is_done : Always m pages ConfirmedIsDone
+  always_confirmed_is_done = always ConfirmedIsDone (λ g stands. stands.replying.confirmed)
 
   pub always_keeps_well : Always m pages KeepsWell
   always_keeps_well = always KeepsWell (λ g stands. well_kept g.now.world.state stands.sound)

@@ -3,7 +3,7 @@ use Rattle.std.specs.Prelude.{◌≡◌, ℕ, ◌≤◌, List, [], ◌∷◌, �
 use Rattle.book.specs.Model.{Model}
 use Rattle.congress.specs.State.{Scene}
 use Rattle.congress.specs.declared.refusals.Refusal.{Refusal}
-use Rattle.order.specs.Promises.{OneOrder, AllOrNone, KeepsWell}
+use Rattle.order.specs.Promises.{OneOrder, AllOrNone, ConfirmedIsDone, KeepsWell}
 use Rattle.order.specs.Removal.{RemovalHolds}
 use Rattle.order.specs.Runs.{step, Past, beginning, one_call, run}
 use Rattle.order.specs.declared.calls.Call.{Call}
@@ -19,6 +19,7 @@ told m (call ∷ calls) g = (step m call g.now).0 ∷ told m calls (one_call m c
 pub record Promised (m : Model) (g : Past) : Type 0 where
   pub one_order : OneOrder m g
   pub all_or_none : AllOrNone g
+  pub confirmed_is_done : ConfirmedIsDone g
   pub keeps_well : KeepsWell g
   -- where the book is a roll of deputies over some book
   pub removal : IsRoll m → RemovalHolds g

@@ -4,7 +4,7 @@ use Rattle.book.specs.Model.{Page, Model}
 use Rattle.congress.specs.Kept.{locks, kept}
 use Rattle.congress.specs.Queue.{any_at}
 use Rattle.congress.specs.State.{State, hall_at, world, scene}
-use Rattle.order.specs.History.{Issued, issue_of, Fallen}
+use Rattle.order.specs.History.{Issued, issue_of, Fallen, History}
 use Rattle.order.specs.Plain.{Part, at_hall, PlainOrder}
 use Rattle.order.specs.Runs.{Past, beginning, run}
 use Rattle.order.specs.declared.calls.Call.{Call}
@@ -39,6 +39,19 @@ pub record OneOrder (m : Model) (g : Past) : Type 0 where
 -- All or none: no hall has done its part of a transaction while another has let its part fall.
 abbrev pub AllOrNone : Past → Type 0
 AllOrNone g = (x : Part) (y : Fallen) → x ∈ g.history.done → y ∈ g.history.fallen → x.transaction ≢ y.transaction
+
+-- a hall has done its part of a transaction
+abbrev pub DoneAt : List Part → ℕ → ℕ → Type 0
+DoneAt done transaction hall = (x : Part) × (x ∈ done) × (x.transaction ≡ transaction) × (x.hall ≡ hall)
+
+-- every hall that a transaction names has done its part
+abbrev pub DoneWholly : History → ℕ → Type 0
+DoneWholly H transaction =
+    (i : Issued) × (issue_of transaction H.issues ≡ Some i) × ((hall : ℕ) → names i.halls hall ≡ true → DoneAt H.done transaction hall)
+
+-- What is confirmed is done: a transaction that its console was told to be confirmed is done wholly.
+abbrev pub ConfirmedIsDone : Past → Type 0
+ConfirmedIsDone g = (transaction : ℕ) → transaction ∈ g.history.confirmed → DoneWholly g.history transaction
 
 -- What every congress keeps. With it a hall is back in timestamp mode after each call that leaves it without entries.
 pub record WellKept (s : State) : Type 0 where

@@ -7,4 +7,6 @@ mod promises;
 
 pub use calls::{Call, Said};
 pub use making::{TooShort, conduct, make};
-pub use promises::{all_or_none_holds, congress_is_kept, one_order_holds, removal_holds};
+pub use promises::{
+    all_or_none_holds, confirmed_is_done, congress_is_kept, one_order_holds, removal_holds,
+};

@@ -1,6 +1,6 @@
 // What is promised of every list of calls that begins with an Open that is not refused, after each of its calls: theorems,
 // with no code of their own. They hold over every book, on every congress and every post.
-ghost use Rattle.order.specs.Promises.{OneOrder, AllOrNone, KeepsWell, Always};
+ghost use Rattle.order.specs.Promises.{OneOrder, AllOrNone, ConfirmedIsDone, KeepsWell, Always};
 ghost use Rattle.order.specs.Removal.{RemovalHolds};
 ghost use Rattle.roll.specs.Over.{IsRoll};
 
@@ -16,6 +16,13 @@ pub fn one_order_holds<B: Book>(_book: &B) -> u8
 // No hall does its part of a transaction while another lets its part fall.
 pub fn all_or_none_holds<B: Book>(_book: &B) -> u8
     ensures { Always B.model (B.pages _book.now) AllOrNone }
+{
+    0
+}
+
+// A transaction that its console was told to be confirmed has been done at every hall that it names.
+pub fn confirmed_is_done<B: Book>(_book: &B) -> u8
+    ensures { Always B.model (B.pages _book.now) ConfirmedIsDone }
 {
     0
 }
