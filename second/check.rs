@@ -5,15 +5,16 @@
 //! - no transaction is done at one hall and fallen at another;
 //! - the stamps of a transaction's parts are equal;
 //! - no part of a coordinated transaction is done with a fault;
+//! - a transaction that its console was told to be confirmed is done at every hall that it names;
 //! - under a grant that was removed nothing is well done before it is appointed again.
 
 use std::collections::{BTreeMap, BTreeSet};
 
 use crate::book::{Book, NumericAnswer, Page, HALLS};
 use crate::deliver::{Outcome, Part};
-use crate::messages::{Class, Transaction};
+use crate::messages::{Class, Halls, Transaction};
 use crate::roll;
-use crate::script::{Call, Line};
+use crate::script::{Call, Issue, Line};
 use crate::stage::{Rehearsal, Stage, Told};
 
 const GRANTS: usize = 16;
@@ -27,7 +28,9 @@ struct Checker<P> {
     removed_when_opened: [Removed; HALLS],
     removed: [Removed; HALLS],
     /// Since that Open.
+    issued: BTreeMap<Transaction, Halls>,
     fallen: BTreeSet<Transaction>,
+    confirmed: BTreeSet<Transaction>,
 }
 
 /// How many calls the script has, or the first violation.
@@ -53,7 +56,9 @@ impl<P: Page> Checker<P> {
             opened: book,
             removed_when_opened: Default::default(),
             removed: Default::default(),
+            issued: BTreeMap::new(),
             fallen: BTreeSet::new(),
+            confirmed: BTreeSet::new(),
         }
     }
 
@@ -62,20 +67,29 @@ impl<P: Page> Checker<P> {
             (Call::Open { .. }, Told::Done) => {
                 self.opened = rehearsal.stage.book.clone();
                 self.removed_when_opened = self.removed;
+                self.issued.clear();
                 self.fallen.clear();
+                self.confirmed.clear();
             }
-            (_, Told::Came(event)) => {
-                use Outcome::{Aborted, MetConflict, Removed};
-                if matches!(event.outcome, MetConflict | Aborted | Removed) {
+            (Call::Issue(Issue { halls, .. }), Told::Issued(transaction)) => {
+                self.issued.insert(transaction, *halls);
+            }
+            (_, Told::Came(event)) => match event.outcome {
+                Outcome::MetConflict | Outcome::Aborted | Outcome::Removed => {
                     self.fallen.insert(event.transaction);
                 }
-            }
+                Outcome::Confirmed => {
+                    self.confirmed.insert(event.transaction);
+                }
+                _ => {}
+            },
             _ => {}
         }
     }
 
     fn check(&mut self, rehearsal: &Rehearsal<P>) -> Result<(), String> {
         self.check_transactions(&rehearsal.parts)?;
+        self.check_confirmed(&rehearsal.parts)?;
         for hall in 0..HALLS {
             let parts = rehearsal.plain_order(hall);
             self.check_plain_order(hall, &parts, rehearsal)?;
@@ -105,6 +119,22 @@ impl<P: Page> Checker<P> {
             }
             if *class == Class::Coordinated && answer.is_err() {
                 return Err(format!("transaction {transaction} is done with a fault"));
+            }
+        }
+        Ok(())
+    }
+
+    fn check_confirmed(&self, parts: &[Part<P>]) -> Result<(), String> {
+        let done: BTreeSet<_> = parts
+            .iter()
+            .map(|part| (part.transaction, part.hall))
+            .collect();
+        for transaction in &self.confirmed {
+            let mut named = self.issued[transaction].ascending();
+            if let Some(hall) = named.find(|hall| !done.contains(&(*transaction, *hall))) {
+                return Err(format!(
+                    "transaction {transaction} is confirmed and not done at hall {hall}"
+                ));
             }
         }
         Ok(())
