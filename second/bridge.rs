@@ -5,7 +5,7 @@ use std::cmp::Ordering;
 
 use crate::book::{self, Answer, Fault, Keys, News, Operation, FIRST_ROUND, LAST_ROUND_TO_CLOSE};
 
-const LAYER: u8 = 2;
+pub const LAYER: u8 = 2;
 
 const DEALS: usize = 16;
 const LAST_DEAL: u16 = 15;
@@ -47,6 +47,23 @@ pub enum Cause {
     PairOnAnotherLine = 8,
     NoSuchKind = 9,
     NoSuchHall = 255,
+}
+
+impl Cause {
+    pub fn from_number(number: u8) -> Option<Self> {
+        [
+            Self::NoSuchDeal,
+            Self::NoSuchPair,
+            Self::NoSuchLine,
+            Self::NoSuchScore,
+            Self::CannotClose,
+            Self::PairOnAnotherLine,
+            Self::NoSuchKind,
+            Self::NoSuchHall,
+        ]
+        .into_iter()
+        .find(|cause| *cause as u8 == number)
+    }
 }
 
 impl book::Cause for Cause {

@@ -3,7 +3,7 @@
 
 use crate::book::{self, Answer, Fault, Keys, News, Operation, FIRST_ROUND, LAST_ROUND_TO_CLOSE};
 
-const LAYER: u8 = 1;
+pub const LAYER: u8 = 1;
 
 const BOARDS: usize = 32;
 const LAST_BOARD: u16 = 31;
@@ -52,6 +52,24 @@ pub enum Cause {
     CannotClose = 7,
     NoSuchKind = 9,
     NoSuchHall = 255,
+}
+
+impl Cause {
+    pub fn from_number(number: u8) -> Option<Self> {
+        [
+            Self::NoSuchBoard,
+            Self::NoSuchPlayers,
+            Self::BoardHasResult,
+            Self::NobodySeated,
+            Self::NotTheRound,
+            Self::NoSuchResult,
+            Self::CannotClose,
+            Self::NoSuchKind,
+            Self::NoSuchHall,
+        ]
+        .into_iter()
+        .find(|cause| *cause as u8 == number)
+    }
 }
 
 impl book::Cause for Cause {

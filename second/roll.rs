@@ -5,7 +5,7 @@ use std::num::NonZeroU32;
 
 use crate::book::{self, Answer, Fault, Keys, News, Operation};
 
-const LAYER: u8 = 3;
+pub const LAYER: u8 = 3;
 
 const ENTRIES: usize = 16;
 const LAST_ENTRY: u16 = 15;
@@ -41,6 +41,20 @@ pub enum Cause {
     NoSuchEntry = 3,
     NoSuchToken = 4,
     NoSuchHall = 255,
+}
+
+impl Cause {
+    pub fn from_number(number: u8) -> Option<Self> {
+        [
+            Self::GrantDoesNotStand,
+            Self::NotTheChief,
+            Self::NoSuchEntry,
+            Self::NoSuchToken,
+            Self::NoSuchHall,
+        ]
+        .into_iter()
+        .find(|cause| *cause as u8 == number)
+    }
 }
 
 /// What came of an operation of the roll's own that was well done.

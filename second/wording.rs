@@ -15,6 +15,17 @@ pub fn answer<P: Page>(answer: &Answer<P>) -> String {
     }
 }
 
+/// A cause's text, by its layer and number.
+pub fn words_of_cause(layer: u8, number: u8) -> String {
+    let words = match layer {
+        chess::LAYER => chess::Cause::from_number(number).map(|cause| cause.to_string()),
+        bridge::LAYER => bridge::Cause::from_number(number).map(|cause| cause.to_string()),
+        roll::LAYER => roll::Cause::from_number(number).map(|cause| cause.to_string()),
+        _ => None,
+    };
+    words.unwrap_or_else(|| "no such cause".to_string())
+}
+
 impl Display for Game {
     fn fmt(&self, out: &mut Formatter) -> fmt::Result {
         out.write_str(match self {
