@@ -1,0 +1,153 @@
+//! The rows in which calls go to both sides, and in which both write what was told. They are laid out
+//! as `crates/measured/src/rows.rt` has them.
+
+use crate::book::{Operation, HALLS};
+
+#[derive(Clone, Copy, Default)]
+#[repr(C)]
+pub struct OperationRow {
+    pub token: u32,
+    pub c: i32,
+    pub a: u16,
+    pub b: u16,
+    pub d: u16,
+    pub kind: u8,
+    pub grant: u8,
+}
+
+impl From<Operation> for OperationRow {
+    fn from(operation: Operation) -> Self {
+        let Operation {
+            kind,
+            grant,
+            token,
+            a,
+            b,
+            c,
+            d,
+        } = operation;
+        Self {
+            token,
+            c,
+            a,
+            b,
+            d,
+            kind,
+            grant,
+        }
+    }
+}
+
+impl From<OperationRow> for Operation {
+    fn from(row: OperationRow) -> Self {
+        let OperationRow {
+            token,
+            c,
+            a,
+            b,
+            d,
+            kind,
+            grant,
+        } = row;
+        Self {
+            kind,
+            grant,
+            token,
+            a,
+            b,
+            c,
+            d,
+        }
+    }
+}
+
+pub const OPEN: u8 = 0;
+pub const ISSUE: u8 = 1;
+pub const DELIVER: u8 = 2;
+pub const WORK: u8 = 3;
+pub const CLOCK: u8 = 4;
+pub const DROP: u8 = 5;
+
+/// A call. `number` is a place or a time; `at` a console, a hall, or how many halls are opened.
+#[derive(Clone, Copy, Default)]
+#[repr(C)]
+pub struct CallRow {
+    pub operations: [OperationRow; HALLS],
+    pub number: u64,
+    pub kind: u8,
+    pub at: u8,
+    pub class: u8,
+    pub halls: u8,
+}
+
+pub const NOTHING: u8 = 0;
+pub const TRANSACTION: u8 = 1;
+pub const OUTCOME: u8 = 2;
+pub const REFUSAL: u8 = 3;
+
+/// What a call told. `number` is that of an outcome or a refusal; what a kind has not is 0.
+#[derive(Clone, Copy, Default, PartialEq, Eq, Debug)]
+#[repr(C)]
+pub struct ToldRow {
+    pub stamp: u64,
+    pub transaction: u32,
+    pub value: i32,
+    pub place: u16,
+    pub kind: u8,
+    pub number: u8,
+    pub hall: u8,
+    pub layer: u8,
+    pub cause: u8,
+}
+
+/// So many numbers of each page are written, whatever the book is.
+pub const WIDTH: usize = 512;
+pub const PAGE_NUMBERS: usize = HALLS * WIDTH;
+
+/// How many places the post has.
+pub const POST_PLACES: usize = 1024;
+
+/// What a list of calls told, and the pages at its end.
+#[derive(Clone, PartialEq, Eq)]
+pub struct Written {
+    pub told: Vec<ToldRow>,
+    pub pages: Vec<i64>,
+}
+
+impl Written {
+    pub fn new(calls: usize) -> Self {
+        Self {
+            told: vec![ToldRow::default(); calls],
+            pages: vec![0; PAGE_NUMBERS],
+        }
+    }
+
+    /// Both sides start from memory cleared alike.
+    pub fn clear(&mut self) {
+        self.told.fill(ToldRow::default());
+        self.pages.fill(0);
+    }
+
+    /// FNV-1a over each number of each row, and of each page.
+    pub fn checksum(&self) -> u64 {
+        let told = self.told.iter().flat_map(|row| {
+            [
+                row.stamp,
+                row.transaction.into(),
+                row.value as u64,
+                row.place.into(),
+                row.kind.into(),
+                row.number.into(),
+                row.hall.into(),
+                row.layer.into(),
+                row.cause.into(),
+            ]
+        });
+        let pages = self.pages.iter().map(|number| *number as u64);
+        told.chain(pages)
+            .flat_map(u64::to_le_bytes)
+            .fold(0xCBF2_9CE4_8422_2325, |hash, byte| {
+                (hash ^ u64::from(byte)).wrapping_mul(0x100_0000_01B3)
+            })
+    }
+}
