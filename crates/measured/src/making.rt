@@ -4,16 +4,15 @@ ghost use Rattle.book.specs.Below.{table};
 ghost use Rattle.congress.specs.Meaning.{scene_of};
 ghost use Rattle.measured.specs.Rooms.{HallsFitInMemory};
 ghost use Rattle.measured.specs.Measured.{number_in, Made, Measured, Untouched};
-ghost use Rattle.measured.specs.Rows.{call_of, rows_of};
+ghost use Rattle.measured.specs.Rows.{call_of, rows_of, row_step};
 ghost use Rattle.order.specs.Runs.{beginning, run};
 ghost use Rattle.roll.specs.Roll.{roll_model, page_of, first_page};
 ghost use Rattle.std.proofs.lemmas.List.Edits.{sets};
 
-use super::reading::{call_of, row_of};
+use super::reading::{operations_of, row_of_nothing, row_of_number, row_of_report};
 use super::rows::{CallRow, ToldRow};
 use book::{Book, HALLS, Hall, Halls};
 use congress::Congress;
-use order::make;
 use records::{Message, Request};
 use roll::Roll;
 
@@ -21,6 +20,31 @@ use roll::Roll;
 const WIDTH: usize = 512;
 
 const POST_PLACES: usize = 1024;
+
+// Makes the call of a row, by its kind: 0 Open, 1 Issue, 2 Deliver, 3 Work, 4 Clock, any other Drop.
+fn make_row<B: Book>(
+    congress: &mut Congress,
+    book: &mut B,
+    post: &mut [Message],
+    row: &CallRow,
+) -> ToldRow
+    ensures { (result, scene_of congress.new post.new (B.pages book.new)) ≡ row_step B.model row.now (scene_of congress.old post.old (B.pages book.old)) }
+{
+    match row.kind {
+        0 => row_of_nothing(congress.open(row.at)),
+        1 => row_of_number(congress.issue(
+            post,
+            row.at,
+            row.class,
+            row.halls,
+            operations_of(row.operations),
+        )),
+        2 => row_of_report(congress.deliver(book, post, row.number as usize)),
+        3 => row_of_report(congress.work(book, post, row.at)),
+        4 => row_of_nothing(congress.set_clock(row.at, row.number)),
+        _ => row_of_nothing(congress.drop_message(post, row.number as usize)),
+    }
+}
 
 // Makes the calls in turn, and writes what each told at its place.
 fn make_all<B: Book>(
@@ -35,7 +59,7 @@ fn make_all<B: Book>(
     ensures told { told.new ≡ sets told.old 0 (rows_of B.model calls.now (beginning (scene_of congress.old post.old (B.pages book.old)))) }
 {
     for (place, call) in calls.iter().enumerate() {
-        told[place] = row_of(make(congress, book, post, call_of(call)));
+        told[place] = make_row(congress, book, post, call);
     }
 }
 

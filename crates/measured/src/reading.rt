@@ -1,10 +1,12 @@
 // What the rows mean.
 ghost use Rattle.std.specs.Prelude.{◌≡◌};
-ghost use Rattle.measured.specs.Rows.{operation_of, call_of, nothing_row, number_row, report_row, refusal_row, row_of};
+ghost use Rattle.measured.specs.Rows.{operation_of, operations_of, nothing_row, number_row, report_row, refusal_row, row_of};
+ghost use Rattle.order.specs.Runs.{nothing, saying};
+ghost use Rattle.order.specs.declared.calls.Said.TheVariants.{Number};
+ghost use Rattle.order.specs.declared.calls.Said.{Said};
 
 use super::rows::{CallRow, OperationRow, ToldRow};
 use congress::{Refusal, Report};
-use order::{Call, Said};
 use records::Operation;
 
 fn operation_of(row: OperationRow) -> Operation
@@ -21,29 +23,21 @@ fn operation_of(row: OperationRow) -> Operation
     }
 }
 
-pub(crate) fn call_of(row: &CallRow) -> Call
-    ensures { result ≡ call_of row.now }
+// What each hall is asked.
+pub(crate) fn operations_of(rows: [OperationRow; 8]) -> [Operation; 8]
+    ensures { result ≡ operations_of rows }
 {
-    match row.kind {
-        0 => Call::Open { halls: row.at },
-        1 => Call::Issue {
-            console: row.at,
-            class: row.class,
-            halls: row.halls,
-            operations: row.operations.map(operation_of),
-        },
-        2 => Call::Deliver {
-            place: row.number as usize,
-        },
-        3 => Call::Work { hall: row.at },
-        4 => Call::Clock {
-            hall: row.at,
-            time: row.number,
-        },
-        _ => Call::Drop {
-            place: row.number as usize,
-        },
-    }
+    // one by one, since for `map` with a function the check finds no proof
+    [
+        operation_of(rows[0]),
+        operation_of(rows[1]),
+        operation_of(rows[2]),
+        operation_of(rows[3]),
+        operation_of(rows[4]),
+        operation_of(rows[5]),
+        operation_of(rows[6]),
+        operation_of(rows[7]),
+    ]
 }
 
 fn nothing_row() -> ToldRow
@@ -98,13 +92,29 @@ fn refusal_row(refusal: Refusal) -> ToldRow
     }
 }
 
-pub(crate) fn row_of(told: Result<Said, Refusal>) -> ToldRow
-    ensures { result ≡ row_of told }
+pub(crate) fn row_of_nothing(told: Result<(), Refusal>) -> ToldRow
+    ensures { result ≡ row_of (saying nothing told) }
 {
     match told {
-        Ok(Said::Nothing) => nothing_row(),
-        Ok(Said::Number(transaction)) => number_row(transaction),
-        Ok(Said::Report(report)) => report_row(report),
+        Ok(_) => nothing_row(),
+        Err(refusal) => refusal_row(refusal),
+    }
+}
+
+pub(crate) fn row_of_number(told: Result<u32, Refusal>) -> ToldRow
+    ensures { result ≡ row_of (saying Number told) }
+{
+    match told {
+        Ok(transaction) => number_row(transaction),
+        Err(refusal) => refusal_row(refusal),
+    }
+}
+
+pub(crate) fn row_of_report(told: Result<Report, Refusal>) -> ToldRow
+    ensures { result ≡ row_of (saying Said.Report told) }
+{
+    match told {
+        Ok(report) => report_row(report),
         Err(refusal) => refusal_row(refusal),
     }
 }
