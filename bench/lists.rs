@@ -10,7 +10,8 @@ use crate::messages::{Class, Halls, Message, CONSOLES};
 use crate::operations::{Game, Signature};
 use crate::plain::Plain;
 use crate::rows::{
-    CallRow, OperationRow, ToldRow, CLOCK, DELIVER, DROP, ISSUE, OPEN, OUTCOME, POST_PLACES, WORK,
+    CallRow, Calls, OperationRow, PartsRow, ToldRow, CLOCK, DELIVER, DROP, ISSUE, OPEN, OUTCOME,
+    POST_PLACES, WORK,
 };
 
 /// The chief's token in every list.
@@ -36,23 +37,23 @@ pub struct Mix {
     pub is_full: bool,
 }
 
-pub fn list<P: Page>(mix: Mix, page: P, seed: u64, calls: usize) -> Vec<CallRow> {
+pub fn list<P: Page>(mix: Mix, page: P, seed: u64, calls: usize) -> Calls {
     let mut lister = Lister {
         chance: Chance::new(seed),
         mix,
         plain: Plain::new(page),
-        calls: Vec::with_capacity(calls),
+        calls: Calls::default(),
         once_appointed: Vec::new(),
         in_flight: 16,
         next_day: 0,
     };
-    while lister.calls.len() < calls {
-        if lister.calls.len() >= lister.next_day {
+    while lister.calls.rows.len() < calls {
+        if lister.calls.rows.len() >= lister.next_day {
             lister.open();
         }
         lister.turn();
     }
-    lister.calls.truncate(calls);
+    lister.calls.rows.truncate(calls);
     lister.calls
 }
 
@@ -60,7 +61,7 @@ struct Lister<P: Page> {
     chance: Chance,
     mix: Mix,
     plain: Plain<P>,
-    calls: Vec<CallRow>,
+    calls: Calls,
     once_appointed: Vec<Signature>,
     /// How many messages and waiting parts there may be before another transaction is issued.
     in_flight: usize,
@@ -70,8 +71,8 @@ struct Lister<P: Page> {
 impl<P: Page> Lister<P> {
     /// Writes the call, and makes it.
     fn call(&mut self, call: CallRow) -> ToldRow {
-        self.calls.push(call);
-        self.plain.make(&call)
+        self.calls.rows.push(call);
+        self.plain.make(&self.calls.parts, &call)
     }
 
     fn simple(&mut self, kind: u8, at: usize, number: u64) -> ToldRow {
@@ -84,7 +85,7 @@ impl<P: Page> Lister<P> {
     }
 
     fn open(&mut self) {
-        self.next_day = self.calls.len() + CALLS_OF_A_DAY;
+        self.next_day = self.calls.rows.len() + CALLS_OF_A_DAY;
         self.simple(OPEN, self.mix.halls, 0);
     }
 
@@ -237,13 +238,16 @@ impl<P: Page> Lister<P> {
         let halls = self.halls(class);
         let operations = self.operations(halls);
         self.remember(&operations);
+        let number = self.calls.parts.len() as u64;
+        self.calls.parts.push(PartsRow {
+            operations: operations.map(OperationRow::from),
+        });
         self.call(CallRow {
             kind: ISSUE,
             at: console as u8,
             class: class.number(),
             halls: halls.0,
-            operations: operations.map(OperationRow::from),
-            number: 0,
+            number,
         });
         true
     }

@@ -57,7 +57,7 @@ use book::{Page, HALLS};
 use lists::{Mix, CHIEF_TOKEN};
 use messages::Class;
 use operations::Game;
-use rows::{CallRow, ToldRow, Written, DELIVER, DROP, ISSUE, OUTCOME, REFUSAL, WORK};
+use rows::{Calls, ToldRow, Written, DELIVER, DROP, ISSUE, OUTCOME, REFUSAL, WORK};
 
 const SEED: u64 = 1;
 const CALLS: usize = 200_000;
@@ -209,7 +209,7 @@ fn measured(row: &Row, place: u64, size: &Size) -> bool {
     }
 }
 
-fn list<P: Page>(page: P, row: &Row, place: u64, size: &Size) -> Vec<CallRow> {
+fn list<P: Page>(page: P, row: &Row, place: u64, size: &Size) -> Calls {
     // Seeds that differ little are to give states that differ much, and never 0.
     let seed = (size.seed * 1_000 + place).wrapping_mul(0x9E37_79B9_7F4A_7C15) | 1;
     lists::list(
@@ -222,8 +222,8 @@ fn list<P: Page>(page: P, row: &Row, place: u64, size: &Size) -> Vec<CallRow> {
 
 fn measured_over<P: Page>(page: P, row: &Row, place: u64, size: &Size) -> bool {
     let calls = list(page.clone(), row, place, size);
-    let mut ours = Written::new(calls.len());
-    let mut theirs = Written::new(calls.len());
+    let mut ours = Written::new(calls.rows.len());
+    let mut theirs = Written::new(calls.rows.len());
     let mut best = [Duration::MAX; 2];
     for _ in 0..size.repeats {
         ours.clear();
@@ -235,7 +235,7 @@ fn measured_over<P: Page>(page: P, row: &Row, place: u64, size: &Size) -> bool {
             return false;
         }
     }
-    let [ours_rate, theirs_rate] = best.map(|time| calls.len() as f64 / time.as_secs_f64());
+    let [ours_rate, theirs_rate] = best.map(|time| calls.rows.len() as f64 / time.as_secs_f64());
     println!(
         "| {} | {} | {:.0} | {:.0} | {:.2} | {:016x} |",
         row.name,
@@ -248,13 +248,13 @@ fn measured_over<P: Page>(page: P, row: &Row, place: u64, size: &Size) -> bool {
     true
 }
 
-fn by_proved(game: Game, calls: &[CallRow], written: &mut Written) {
+fn by_proved(game: Game, calls: &Calls, written: &mut Written) {
     let Written { told, pages } = written;
     let is_made = proved::measure(game, CHIEF_TOKEN, calls, told, pages);
     assert!(is_made, "there are as many places as calls");
 }
 
-fn by_plain<P: Page>(page: P, calls: &[CallRow], written: &mut Written) {
+fn by_plain<P: Page>(page: P, calls: &Calls, written: &mut Written) {
     let Written { told, pages } = written;
     plain::measure(roll::Page::new(CHIEF_TOKEN, page), calls, told, pages);
 }
@@ -266,10 +266,10 @@ fn time(work: impl FnOnce()) -> Duration {
 }
 
 /// What the list is made of.
-fn counts(calls: &[CallRow], written: &Written) -> String {
-    let per_thousand = |count: usize| count * 1_000 / calls.len();
+fn counts(calls: &Calls, written: &Written) -> String {
+    let per_thousand = |count: usize| count * 1_000 / calls.rows.len();
     let of_kind = |kind: u8| {
-        let count = calls.iter().filter(|call| call.kind == kind).count();
+        let count = calls.rows.iter().filter(|call| call.kind == kind).count();
         per_thousand(count).to_string()
     };
     let of_told = |meant: fn(&ToldRow) -> bool| {
@@ -319,7 +319,7 @@ fn profile(arguments: &[String]) -> Option<bool> {
 fn profile_over<P: Page>(page: P, place: usize, is_ours: bool, size: &Size) {
     let row = &ROWS[place];
     let calls = list(page.clone(), row, place as u64, size);
-    let mut written = Written::new(calls.len());
+    let mut written = Written::new(calls.rows.len());
     for _ in 0..size.repeats {
         match is_ours {
             true => by_proved(row.mix.game, &calls, &mut written),

@@ -6,8 +6,8 @@ use crate::congress::{Congress, Refusal};
 use crate::deliver::Event;
 use crate::messages::{Halls, Message, Transaction};
 use crate::rows::{
-    CallRow, ToldRow, CLOCK, DELIVER, ISSUE, NOTHING, OPEN, OUTCOME, POST_PLACES, REFUSAL,
-    TRANSACTION, WIDTH, WORK,
+    CallRow, Calls, PartsRow, ToldRow, CLOCK, DELIVER, ISSUE, NOTHING, OPEN, OUTCOME, POST_PLACES,
+    REFUSAL, TRANSACTION, WIDTH, WORK,
 };
 
 pub struct Plain<P: Page> {
@@ -26,7 +26,7 @@ impl<P: Page> Plain<P> {
         }
     }
 
-    pub fn make(&mut self, call: &CallRow) -> ToldRow {
+    pub fn make(&mut self, parts: &[PartsRow], call: &CallRow) -> ToldRow {
         let Self {
             congress,
             post,
@@ -36,7 +36,7 @@ impl<P: Page> Plain<P> {
         let told = match call.kind {
             OPEN => congress.open(at).map(|()| nothing()),
             ISSUE => {
-                let operations: [Operation; HALLS] = call.operations.map(Operation::from);
+                let operations = operations(parts.get(call.number as usize));
                 congress
                     .issue(post, at, call.class, Halls(call.halls), &operations)
                     .map(transaction)
@@ -53,6 +53,13 @@ impl<P: Page> Plain<P> {
                 .map(|()| nothing()),
         };
         told.unwrap_or_else(refusal)
+    }
+}
+
+fn operations(parts: Option<&PartsRow>) -> [Operation; HALLS] {
+    match parts {
+        Some(parts) => parts.operations.map(Operation::from),
+        None => [Operation::default(); HALLS],
     }
 }
 
@@ -95,10 +102,10 @@ fn refusal(refusal: Refusal) -> ToldRow {
 
 /// Makes the calls at a congress not yet opened, and writes what each told and at the end the pages.
 #[inline(never)]
-pub fn measure<P: Page>(page: P, calls: &[CallRow], told: &mut [ToldRow], pages: &mut [i64]) {
+pub fn measure<P: Page>(page: P, calls: &Calls, told: &mut [ToldRow], pages: &mut [i64]) {
     let mut plain = Plain::new(page);
-    for (call, told) in calls.iter().zip(told) {
-        *told = plain.make(call);
+    for (call, told) in calls.rows.iter().zip(told) {
+        *told = plain.make(&calls.parts, call);
     }
     for (hall, places) in pages.chunks_mut(WIDTH).enumerate() {
         let numbers = plain.book.page(hall as u8).map_or(Vec::new(), P::numbers);

@@ -1,11 +1,13 @@
 //! The proved side: the two functions that `crates/measured` exports.
 
 use crate::operations::Game;
-use crate::rows::{CallRow, ToldRow};
+use crate::rows::{CallRow, Calls, PartsRow, ToldRow};
 
 extern "C" {
     fn measure_chess(
         chief: u32,
+        parts: *const PartsRow,
+        parts_count: usize,
         calls: *const CallRow,
         calls_count: usize,
         told: *mut ToldRow,
@@ -16,6 +18,8 @@ extern "C" {
 
     fn measure_bridge(
         chief: u32,
+        parts: *const PartsRow,
+        parts_count: usize,
         calls: *const CallRow,
         calls_count: usize,
         told: *mut ToldRow,
@@ -29,7 +33,7 @@ extern "C" {
 pub fn measure(
     game: Game,
     chief: u32,
-    calls: &[CallRow],
+    calls: &Calls,
     told: &mut [ToldRow],
     pages: &mut [i64],
 ) -> bool {
@@ -41,8 +45,10 @@ pub fn measure(
     unsafe {
         export(
             chief,
-            calls.as_ptr(),
-            calls.len(),
+            calls.parts.as_ptr(),
+            calls.parts.len(),
+            calls.rows.as_ptr(),
+            calls.rows.len(),
             told.as_mut_ptr(),
             told.len(),
             pages.as_mut_ptr(),

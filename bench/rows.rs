@@ -68,11 +68,19 @@ pub const WORK: u8 = 3;
 pub const CLOCK: u8 = 4;
 pub const DROP: u8 = 5;
 
-/// A call. `number` is a place or a time; `at` a console, a hall, or how many halls are opened.
+/// What each hall is asked by an Issue. These rows are a list of their own, so that a list of calls takes few bytes, and
+/// memory costs little beside the calls.
+#[derive(Clone, Copy, Default)]
+#[repr(C)]
+pub struct PartsRow {
+    pub operations: [OperationRow; HALLS],
+}
+
+/// A call. `number` is a place, a time, or the number of a row of parts; `at` a console, a hall, or how many
+/// halls are opened.
 #[derive(Clone, Copy, Default)]
 #[repr(C)]
 pub struct CallRow {
-    pub operations: [OperationRow; HALLS],
     pub number: u64,
     pub kind: u8,
     pub at: u8,
@@ -98,6 +106,13 @@ pub struct ToldRow {
     pub hall: u8,
     pub layer: u8,
     pub cause: u8,
+}
+
+/// A list of calls, and of the parts that its Issues name.
+#[derive(Clone, Default)]
+pub struct Calls {
+    pub parts: Vec<PartsRow>,
+    pub rows: Vec<CallRow>,
 }
 
 /// So many numbers of each page are written, whatever the book is.

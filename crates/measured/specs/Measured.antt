@@ -6,6 +6,7 @@ use Rattle.congress.specs.Sending.{no_operation}
 use Rattle.congress.specs.State.{Scene, fresh, world, scene}
 use Rattle.measured.specs.Rows.{call_of, rows_of}
 use Rattle.measured.specs.declared.rows.CallRow.{CallRow}
+use Rattle.measured.specs.declared.rows.PartsRow.{PartsRow}
 use Rattle.measured.specs.declared.rows.ToldRow.{ToldRow}
 use Rattle.order.specs.Runs.{beginning, run}
 use Rattle.records.specs.declared.messages.Message.{Message}
@@ -24,15 +25,15 @@ abbrev pub first_scene : (ℕ → Page) → Scene
 first_scene pages = scene (world (fresh 0) (replicate 1024 blank_message)) pages
 
 -- what is written where the calls are made over a book with these pages
-pub record Made (m : Model) (before : ℕ → Page) (calls : List CallRow) (told told' : List ToldRow) (pages pages' : List ℤ) : Type 0 where
-  pub rows : told' ≡ sets told 0 (rows_of m calls (beginning (first_scene before)))
-  pub numbers : pages' ≡ sets pages 0 (table (length pages) (number_in (run m (map call_of calls) (beginning (first_scene before))).now.pages))
+pub record Made (m : Model) (before : ℕ → Page) (parts : List PartsRow) (calls : List CallRow) (told told' : List ToldRow) (pages pages' : List ℤ) : Type 0 where
+  pub rows : told' ≡ sets told 0 (rows_of m parts calls (beginning (first_scene before)))
+  pub numbers : pages' ≡ sets pages 0 (table (length pages) (number_in (run m (map (call_of parts) calls) (beginning (first_scene before))).now.pages))
 
 -- and over a new book, with this page at each of the eight halls
-pub record Measured (m : Model) (first : Page) (calls : List CallRow) (told told' : List ToldRow) (pages pages' : List ℤ) : Type 0 where
+pub record Measured (m : Model) (first : Page) (parts : List PartsRow) (calls : List CallRow) (told told' : List ToldRow) (pages pages' : List ℤ) : Type 0 where
   pub before : ℕ → Page
   pub new : (h : ℕ) → h < 8 → before h ≡ first
-  pub made : Made m before calls told told' pages pages'
+  pub made : Made m before parts calls told told' pages pages'
 
 -- nothing is written
 pub record Untouched (told told' : List ToldRow) (pages pages' : List ℤ) : Type 0 where

@@ -1,13 +1,17 @@
 -- What the rows mean in which calls come, and what they told is written.
-use Rattle.std.specs.Prelude.{ℕ, cond, List, [], ◌∷◌, map, ◌==◌, pos, Ok, Err, Result, slice_index_or}
+use Rattle.std.specs.Prelude.{ℕ, cond, List, [], ◌∷◌, map, ◌==◌, pos, Ok, Err, Result, replicate, slice_index_or}
+use Rattle.std.specs.List.{slice_get}
+use Rattle.std.specs.Option.{option_map_or}
 use Rattle.book.specs.Model.{Model}
 use Rattle.congress.specs.Outcomes.{outcome_number}
 use Rattle.congress.specs.Refusals.{refusal_number}
+use Rattle.congress.specs.Sending.{no_operation}
 use Rattle.congress.specs.State.{Scene}
 use Rattle.congress.specs.declared.outcomes.Report.{Report}
 use Rattle.congress.specs.declared.refusals.Refusal.{Refusal}
 use Rattle.measured.specs.declared.rows.CallRow.{CallRow}
 use Rattle.measured.specs.declared.rows.OperationRow.{OperationRow}
+use Rattle.measured.specs.declared.rows.PartsRow.{PartsRow}
 use Rattle.measured.specs.declared.rows.ToldRow.{ToldRow}
 use Rattle.order.specs.Conduct.{told}
 use Rattle.order.specs.Runs.{step, Past}
@@ -22,20 +26,24 @@ operation_of r = record { kind = r.kind; grant = r.grant; token = r.token; a = r
 abbrev pub no_operation_row : OperationRow
 no_operation_row = record { token = 0; c = pos 0; a = 0; b = 0; d = 0; kind = 0; grant = 0 }
 
-abbrev pub operation_at : List OperationRow → ℕ → Operation
-operation_at rows h = operation_of (slice_index_or rows h no_operation_row)
+abbrev pub operation_at : PartsRow → ℕ → Operation
+operation_at row h = operation_of (slice_index_or row.operations h no_operation_row)
 
 -- what each of the eight halls is asked
-abbrev pub operations_of : List OperationRow → List Operation
-operations_of rows =
-    operation_at rows 0 ∷ operation_at rows 1 ∷ operation_at rows 2 ∷ operation_at rows 3
-    ∷ operation_at rows 4 ∷ operation_at rows 5 ∷ operation_at rows 6 ∷ operation_at rows 7 ∷ []
+abbrev pub operations_of : PartsRow → List Operation
+operations_of row =
+    operation_at row 0 ∷ operation_at row 1 ∷ operation_at row 2 ∷ operation_at row 3
+    ∷ operation_at row 4 ∷ operation_at row 5 ∷ operation_at row 6 ∷ operation_at row 7 ∷ []
+
+-- by the row of this number, and all zero where there is none
+abbrev pub parts_at : List PartsRow → ℕ → List Operation
+parts_at parts n = option_map_or operations_of (slice_get parts n) (replicate 8 no_operation)
 
 -- by the kind: 0 Open, 1 Issue, 2 Deliver, 3 Work, 4 Clock, any other Drop
-abbrev pub call_of : CallRow → Call
-call_of r =
+abbrev pub call_of : List PartsRow → CallRow → Call
+call_of parts r =
     cond (r.kind == 0) (Call.Open r.at)
-    (cond (r.kind == 1) (Call.Issue r.at r.class r.halls (operations_of r.operations))
+    (cond (r.kind == 1) (Call.Issue r.at r.class r.halls (parts_at parts r.number))
     (cond (r.kind == 2) (Call.Deliver r.number)
     (cond (r.kind == 3) (Call.Work r.at)
     (cond (r.kind == 4) (Call.Clock r.at r.number) (Call.Drop r.number)))))
@@ -69,9 +77,9 @@ row_of (Ok (Said.Report r)) = report_row r
 row_of (Err why) = refusal_row why
 
 -- what the calls tell, as rows
-abbrev pub rows_of : Model → List CallRow → Past → List ToldRow
-rows_of m calls g = map row_of (told m (map call_of calls) g)
+abbrev pub rows_of : Model → List PartsRow → List CallRow → Past → List ToldRow
+rows_of m parts calls g = map row_of (told m (map (call_of parts) calls) g)
 
 -- the call of a row: the row of what it tells, and the congress, the post and the pages after it
-abbrev pub row_step : Model → CallRow → Scene → ToldRow × Scene
-row_step m row s = (row_of (step m (call_of row) s).0, (step m (call_of row) s).1)
+abbrev pub row_step : Model → List PartsRow → CallRow → Scene → ToldRow × Scene
+row_step m parts row s = (row_of (step m (call_of parts row) s).0, (step m (call_of parts row) s).1)

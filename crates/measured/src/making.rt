@@ -9,8 +9,8 @@ ghost use Rattle.order.specs.Runs.{beginning, run};
 ghost use Rattle.roll.specs.Roll.{roll_model, page_of, first_page};
 ghost use Rattle.std.proofs.lemmas.List.Edits.{sets};
 
-use super::reading::{operations_of, row_of_nothing, row_of_number, row_of_report};
-use super::rows::{CallRow, ToldRow};
+use super::reading::{parts_at, row_of_nothing, row_of_number, row_of_report};
+use super::rows::{CallRow, PartsRow, ToldRow};
 use book::{Book, HALLS, Hall, Halls};
 use congress::Congress;
 use records::{Message, Request};
@@ -26,9 +26,10 @@ fn make_row<B: Book>(
     congress: &mut Congress,
     book: &mut B,
     post: &mut [Message],
+    parts: &[PartsRow],
     row: &CallRow,
 ) -> ToldRow
-    ensures { (result, scene_of congress.new post.new (B.pages book.new)) ≡ row_step B.model row.now (scene_of congress.old post.old (B.pages book.old)) }
+    ensures { (result, scene_of congress.new post.new (B.pages book.new)) ≡ row_step B.model parts.now row.now (scene_of congress.old post.old (B.pages book.old)) }
 {
     match row.kind {
         0 => row_of_nothing(congress.open(row.at)),
@@ -37,7 +38,7 @@ fn make_row<B: Book>(
             row.at,
             row.class,
             row.halls,
-            operations_of(row.operations),
+            parts_at(parts, row.number),
         )),
         2 => row_of_report(congress.deliver(book, post, row.number as usize)),
         3 => row_of_report(congress.work(book, post, row.at)),
@@ -51,15 +52,16 @@ fn make_all<B: Book>(
     congress: &mut Congress,
     book: &mut B,
     post: &mut [Message],
+    parts: &[PartsRow],
     calls: &[CallRow],
     told: &mut [ToldRow],
 )
     requires { length calls.now ≤ length told.old }
-    ensures left { scene_of congress.new post.new (B.pages book.new) ≡ (run B.model (map call_of calls.now) (beginning (scene_of congress.old post.old (B.pages book.old)))).now }
-    ensures told { told.new ≡ sets told.old 0 (rows_of B.model calls.now (beginning (scene_of congress.old post.old (B.pages book.old)))) }
+    ensures left { scene_of congress.new post.new (B.pages book.new) ≡ (run B.model (map (call_of parts.now) calls.now) (beginning (scene_of congress.old post.old (B.pages book.old)))).now }
+    ensures told { told.new ≡ sets told.old 0 (rows_of B.model parts.now calls.now (beginning (scene_of congress.old post.old (B.pages book.old)))) }
 {
     for (place, call) in calls.iter().enumerate() {
-        told[place] = make_row(congress, book, post, call);
+        told[place] = make_row(congress, book, post, parts, call);
     }
 }
 
@@ -85,12 +87,13 @@ fn write_pages<B: Book>(book: &B, pages: &mut [i64])
 // Makes the calls at a congress not yet opened over this roll.
 fn measure<B: Book + Drop>(
     mut roll: Roll<B>,
+    parts: &[PartsRow],
     calls: &[CallRow],
     told: &mut [ToldRow],
     pages: &mut [i64],
 ) -> bool
     ensures fits { result ≡ nat_le (length calls.now) (length told.old) }
-    ensures told { result ≡ true → Made (roll_model B.model) (page_of B.pages roll) calls.now told.old told.new pages.old pages.new }
+    ensures told { result ≡ true → Made (roll_model B.model) (page_of B.pages roll) parts.now calls.now told.old told.new pages.old pages.new }
     ensures refused { result ≡ false → Untouched told.old told.new pages.old pages.new }
 {
     if told.len() < calls.len() {
@@ -98,7 +101,7 @@ fn measure<B: Book + Drop>(
     }
     let mut congress = Congress::new();
     let mut post = [Message::Request(Request::default()); POST_PLACES];
-    make_all(&mut congress, &mut roll, &mut post, calls, told);
+    make_all(&mut congress, &mut roll, &mut post, parts, calls, told);
     write_pages(&roll, pages);
     true
 }
@@ -107,14 +110,21 @@ fn measure<B: Book + Drop>(
 // not find the types within it there.
 pub(crate) fn measure_new<H: Hall + Copy>(
     chief: u32,
+    parts: &[PartsRow],
     calls: &[CallRow],
     told: &mut [ToldRow],
     pages: &mut [i64],
 ) -> bool
     requires { HallsFitInMemory H.row }
     ensures fits { result ≡ nat_le (length calls.now) (length told.old) }
-    ensures told { result ≡ true → Measured (roll_model H.model) (first_page chief H.first) calls.now told.old told.new pages.old pages.new }
+    ensures told { result ≡ true → Measured (roll_model H.model) (first_page chief H.first) parts.now calls.now told.old told.new pages.old pages.new }
     ensures refused { result ≡ false → Untouched told.old told.new pages.old pages.new }
 {
-    measure(Roll::new(chief, Halls::<H>::new()), calls, told, pages)
+    measure(
+        Roll::new(chief, Halls::<H>::new()),
+        parts,
+        calls,
+        told,
+        pages,
+    )
 }

@@ -1,11 +1,11 @@
 // What the rows mean.
 ghost use Rattle.std.specs.Prelude.{◌≡◌};
-ghost use Rattle.measured.specs.Rows.{operation_of, operations_of, nothing_row, number_row, report_row, refusal_row, row_of};
+ghost use Rattle.measured.specs.Rows.{operation_of, operations_of, parts_at, nothing_row, number_row, report_row, refusal_row, row_of};
 ghost use Rattle.order.specs.Runs.{nothing, saying};
 ghost use Rattle.order.specs.declared.calls.Said.TheVariants.{Number};
 ghost use Rattle.order.specs.declared.calls.Said.{Said};
 
-use super::rows::{CallRow, OperationRow, ToldRow};
+use super::rows::{OperationRow, PartsRow, ToldRow};
 use congress::{Refusal, Report};
 use records::Operation;
 
@@ -23,10 +23,10 @@ fn operation_of(row: OperationRow) -> Operation
     }
 }
 
-// What each hall is asked.
-pub(crate) fn operations_of(rows: [OperationRow; 8]) -> [Operation; 8]
-    ensures { result ≡ operations_of rows }
+fn operations_of(row: &PartsRow) -> [Operation; 8]
+    ensures { result ≡ operations_of row.now }
 {
+    let rows = row.operations;
     // one by one, since for `map` with a function the check finds no proof
     [
         operation_of(rows[0]),
@@ -38,6 +38,16 @@ pub(crate) fn operations_of(rows: [OperationRow; 8]) -> [Operation; 8]
         operation_of(rows[6]),
         operation_of(rows[7]),
     ]
+}
+
+// What each hall is asked by the row of this number: all zero where there is none.
+pub(crate) fn parts_at(parts: &[PartsRow], number: u64) -> [Operation; 8]
+    ensures { result ≡ parts_at parts.now number }
+{
+    match parts.get(number as usize) {
+        Some(row) => operations_of(row),
+        None => [Operation::default(); 8],
+    }
 }
 
 fn nothing_row() -> ToldRow

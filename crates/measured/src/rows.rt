@@ -12,12 +12,18 @@ pub struct OperationRow {
     pub grant: u8,
 }
 
+// What each hall is asked by an Issue.
+#[repr(C)]
+#[derive(Clone, Copy)]
+pub struct PartsRow {
+    pub operations: [OperationRow; 8],
+}
+
 // Which call a row is goes by its kind: 0 Open, 1 Issue, 2 Deliver, 3 Work, 4 Clock, any other Drop.
 #[repr(C)]
 #[derive(Clone, Copy)]
 pub struct CallRow {
-    pub operations: [OperationRow; 8],
-    // a place or a time
+    // a place or a time; of an Issue the number of its row of parts
     pub number: u64,
     pub kind: u8,
     // a console or a hall; of Open how many halls

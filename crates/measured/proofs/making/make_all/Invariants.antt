@@ -10,5 +10,5 @@ abbrev pub invariant-loop-place : goal.invariant-loop-place
 invariant-loop-place g l =
     let m = g.B.Book.model in
     let first = beginning (scene_of l.fn.congress l.fn.post (g.B.Book.pages l.fn.book)) in
-    (scene_of l.congress l.post (g.B.Book.pages l.book) ≡ (run m (map call_of (take l.place l.fn.calls)) first).now)
-    × (l.told ≡ sets l.fn.told 0 (rows_of m (take l.place l.fn.calls) first))
+    (scene_of l.congress l.post (g.B.Book.pages l.book) ≡ (run m (map (call_of l.fn.parts) (take l.place l.fn.calls)) first).now)
+    × (l.told ≡ sets l.fn.told 0 (rows_of m l.fn.parts (take l.place l.fn.calls) first))

@@ -18,11 +18,11 @@ returns-clause-told g c = λ _.
     let pages = page_of g.B.Book.pages a.roll in
     let first = scene_of c.new-congress.result (replicate 1024 (Message.Request c.default.result)) pages in
     let start : first ≡ first_scene pages = search rules in
-    let rows : c.make_all.new.told ≡ sets a.told.now 0 (rows_of m a.calls.now (beginning first)) = c.make_all.ensures.told in
+    let rows : c.make_all.new.told ≡ sets a.told.now 0 (rows_of m a.parts.now a.calls.now (beginning first)) = c.make_all.ensures.told in
     let left = c.make_all.ensures.left in
     record {
-      rows = rows ∙ ap (λ (s : Scene). sets a.told.now 0 (rows_of m a.calls.now (beginning s))) start;
+      rows = rows ∙ ap (λ (s : Scene). sets a.told.now 0 (rows_of m a.parts.now a.calls.now (beginning s))) start;
       numbers = c.write_pages.ensures
           ∙ ap (λ (s : Scene). sets a.pages.now 0 (table (length a.pages.now) (number_in s.pages))) left
-          ∙ ap (λ (s : Scene). sets a.pages.now 0 (table (length a.pages.now) (number_in (run m (map call_of a.calls.now) (beginning s)).now.pages))) start;
+          ∙ ap (λ (s : Scene). sets a.pages.now 0 (table (length a.pages.now) (number_in (run m (map (call_of a.parts.now) a.calls.now) (beginning s)).now.pages))) start;
     }
