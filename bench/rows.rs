@@ -3,16 +3,17 @@
 
 use crate::book::{Operation, HALLS};
 
+/// An operation, with its fields in the order in which both sides declare those of theirs.
 #[derive(Clone, Copy, Default)]
 #[repr(C)]
 pub struct OperationRow {
-    pub token: u32,
-    pub c: i32,
-    pub a: u16,
-    pub b: u16,
-    pub d: u16,
     pub kind: u8,
     pub grant: u8,
+    pub token: u32,
+    pub a: u16,
+    pub b: u16,
+    pub c: i32,
+    pub d: u16,
 }
 
 impl From<Operation> for OperationRow {
@@ -27,13 +28,13 @@ impl From<Operation> for OperationRow {
             d,
         } = operation;
         Self {
-            token,
-            c,
-            a,
-            b,
-            d,
             kind,
             grant,
+            token,
+            a,
+            b,
+            c,
+            d,
         }
     }
 }
@@ -41,13 +42,13 @@ impl From<Operation> for OperationRow {
 impl From<OperationRow> for Operation {
     fn from(row: OperationRow) -> Self {
         let OperationRow {
-            token,
-            c,
-            a,
-            b,
-            d,
             kind,
             grant,
+            token,
+            a,
+            b,
+            c,
+            d,
         } = row;
         Self {
             kind,

@@ -4,7 +4,7 @@ use Rattle.std.specs.Prelude.{◌==◌, bit_or}
 use Rattle.std.specs.List.{All, list_all}
 use Rattle.congress.proofs.Apart.{TwoApart, flip_apart}
 use Rattle.congress.proofs.Between.{Between, between_push, between_set, between_without}
-use Rattle.congress.proofs.Sets.{within_or, or_pow, or_pow_more, names_parts, names_from, names_or_left, names_pow_self}
+use Rattle.congress.proofs.Sets.{or_pow, or_pow_more, names_parts, names_or_left, names_pow_self}
 use Rattle.congress.specs.Kept.{voted, locks, coordinated, suits, apart, kept}
 use Rattle.congress.specs.Queue.{no_entry, entry_in, any_at, without}
 use Rattle.congress.specs.State.{no_hall}

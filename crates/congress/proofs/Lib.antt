@@ -9,7 +9,6 @@ pub mod Kept
 -- a hall that takes a request
 pub mod Takes
 -- votes that are counted, and entries that are found
-pub mod Counting
 pub mod Finding
 -- entries in the memory of the queue
 pub mod Memory

@@ -1,5 +1,5 @@
 -- Sets of halls as numbers.
-use Rattle.std.proofs.Common.{◌≡◌, ℕ, zero, suc, ◌/◌, ◌%◌, ◌^◌, ◌<◌, ◌≤◌, ltb, true, ◌⊎◌, sym, refl, ap, ◌∙◌, subst, inl, inr, pow-suc, one-add, arith}
+use Rattle.std.proofs.Common.{◌≡◌, ℕ, zero, suc, ◌/◌, ◌%◌, ◌^◌, ◌<◌, ltb, true, ◌⊎◌, sym, refl, ap, ◌∙◌, subst, inl, inr, pow-suc, one-add, arith}
 use lib.Bits.{bit_and, bit_or, or_shr, or_step, and_shr, and_step}
 use lib.Count.{ones, ones_step}
 use Rattle.std.proofs.lemmas.Nat.{shr-shr}

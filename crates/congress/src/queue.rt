@@ -6,18 +6,17 @@ ghost use Rattle.congress.specs.Work.{in_turn, may_run};
 
 use super::state::Congress;
 use super::tables::{Entry, Mode};
-use records::{count_of, first_from};
+use records::first_from;
 
 // So many parts may wait.
 const QUEUE_PLACES: usize = 64;
 
 impl Entry {
     // Whether every named hall has a vote in it.
-    #[tactic(auto, using(crate::proofs::Counting::all_voted))]
     pub(crate) fn is_ready(&self) -> bool
         ensures { result ≡ ready self.now }
     {
-        count_of(self.votes & self.halls) == count_of(self.halls)
+        self.votes & self.halls == self.halls
     }
 
     // Whether it is done before another: by stamp, and then by transaction.

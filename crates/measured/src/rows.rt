@@ -3,13 +3,13 @@
 #[repr(C)]
 #[derive(Clone, Copy)]
 pub struct OperationRow {
-    pub token: u32,
-    pub c: i32,
-    pub a: u16,
-    pub b: u16,
-    pub d: u16,
     pub kind: u8,
     pub grant: u8,
+    pub token: u32,
+    pub a: u16,
+    pub b: u16,
+    pub c: i32,
+    pub d: u16,
 }
 
 // What each hall is asked by an Issue.
