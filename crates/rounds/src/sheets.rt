@@ -131,6 +131,7 @@ impl<C: Cell<CELLS, TOTALS>, const CELLS: usize, const TOTALS: usize> Kept<C, CE
     }
 
     // The value of what would be well done, or why it is not done.
+    #[inline(always)]
     fn say(&self, ask: Ask<C::Ask, CELLS, TOTALS>) -> Result<i32, Fault>
         ensures { result ≡ says C.game self.now.sheet ask }
     {
