@@ -117,11 +117,11 @@ impl<C: Cell<CELLS, TOTALS>, const CELLS: usize, const TOTALS: usize> Kept<C, CE
         requires { self.old.sheet.round ≤ 99 }
         ensures { self.new.sheet ≡ closed C.game self.old.sheet }
     {
-        self.sheet = Sheet {
-            round: self.sheet.round + 1,
-            cells: [C::empty(); CELLS],
-            totals: self.sheet.raised(),
-        };
+        let totals = self.sheet.raised();
+        let cells = [C::empty(); CELLS];
+        self.sheet.round += 1;
+        self.sheet.cells = cells;
+        self.sheet.totals = totals;
     }
 
     fn total(&self, place: Below<TOTALS>) -> i32
