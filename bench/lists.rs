@@ -1,6 +1,7 @@
-//! Lists of calls by seed. Each is made at a plain congress as it is written, so as to choose calls that mostly do
-//! something: requests, votes and replies arrive in any order and are dropped once they are spent, halls work, consoles issue
-//! what helps the play on. Some messages come twice, some are lost, and some calls are refused.
+//! Lists of calls by seed. Each call is made at a plain congress as it is written down, so as to choose
+//! calls that mostly do something: requests, votes and replies arrive in any order and are dropped
+//! once they are spent, halls work, and consoles issue what helps the play on. Some messages come
+//! twice, some are lost, clocks move on, and some calls are refused.
 
 use crate::asking::Asker;
 use crate::book::{NumericAnswer, Operation, Page, HALLS};
@@ -33,7 +34,7 @@ pub struct Mix {
     pub halls: usize,
     /// The class of three in four transactions; the others are single.
     pub class: Class,
-    /// Parts wait until the queue is full, and it stays so.
+    /// Parts wait until the queue is full, and it mostly stays so; all are of the class then.
     pub is_full: bool,
 }
 

@@ -144,7 +144,7 @@ impl Written {
         self.pages.fill(0);
     }
 
-    /// FNV-1a over each number of each row, and of each page.
+    /// Of each number of each row and of each page, in order.
     pub fn checksum(&self) -> u64 {
         let told = self.told.iter().flat_map(|row| {
             [
@@ -161,9 +161,10 @@ impl Written {
         });
         let pages = self.pages.iter().map(|number| *number as u64);
         told.chain(pages)
-            .flat_map(u64::to_le_bytes)
-            .fold(0xCBF2_9CE4_8422_2325, |hash, byte| {
-                (hash ^ u64::from(byte)).wrapping_mul(0x100_0000_01B3)
+            .fold(0xCBF2_9CE4_8422_2325, |hash: u64, number| {
+                (hash ^ number)
+                    .wrapping_mul(0x9E37_79B9_7F4A_7C15)
+                    .rotate_left(29)
             })
     }
 }
