@@ -1,13 +1,14 @@
 -- What the book of bridge has to show of its deals, as a game of rounds.
-use Rattle.std.specs.Prelude.{◌≡◌, ℕ, ◌+◌, ◌-◌, ◌*◌, ◌^◌, ◌<◌, ◌≤◌, true, ◌&&◌, ◌||◌, length, ℤ, pos, Ok, Err, Result, Some, None, ◌==◌, int_lt, nat_le, nat_lt, refl}
+use Rattle.std.specs.Prelude.{◌≡◌, ℕ, ◌+◌, ◌-◌, ◌*◌, ◌^◌, ◌<◌, ◌≤◌, true, false, cond, not, ◌&&◌, ◌||◌, length, ℤ, pos, Ok, Err, Result, Some, None, ◌==◌, int_lt, nat_le, nat_lt, refl}
 use Rattle.std.proofs.Common.{length-set, sym, ap, ap₂, subst, ◌∙◌, arith}
-use Rattle.book.proofs.Below.{sum_bound, length-table, table_all, length-rows, get_or-rows}
+use Rattle.book.proofs.Below.{sum_bound, sum_same, sum_zero, sum_without, length-table, table_all, length-rows, get_or-rows}
 use Rattle.book.proofs.Keys.{Held, held_one, held_below}
 use Rattle.book.specs.Model.{Page}
 use Rattle.book.specs.Numbers.{at}
+use Rattle.book.specs.Below.{sum_below}
 use Rattle.bridge.specs.Asking.{fair, asked_score, asked_line, asked, keys_of, keys, Ask}
 use Rattle.bridge.specs.Page.{line_numbers, deal_numbers, line_from, read_line, read_deal, sized, bridge}
-use Rattle.bridge.specs.Points.{Line, line, has_pair, won, against, points_from, points, east_west_at, east_west, deal_points}
+use Rattle.bridge.specs.Points.{Line, line, filled, filled_at, count, has_pair, won, against, points_from, points, east_west_at, east_west, deal_points}
 use Rattle.bridge.specs.Rules.{changed}
 use Rattle.bridge.specs.declared.asking.DealAsk.{DealAsk}
 use Rattle.bridge.specs.declared.asking.DealAsk.TheVariants.{Score, Read}
@@ -19,7 +20,7 @@ use Rattle.rounds.specs.Fits.{Fits, Covers}
 use Rattle.rounds.specs.declared.Fault.{Fault}
 use Rattle.rounds.specs.declared.Fault.TheVariants.{NoPlace, NoParty, BadResult, UnknownKind}
 use Rattle.rounds.specs.declared.asks.Ask.TheVariants.{Cell, Close, Total}
-use Rattle.std.proofs.lemmas.Bool.{cond_both, cond-true, leb-true, eqb-true, or_left, or_right}
+use Rattle.std.proofs.lemmas.Bool.{cond_both, cond-true, not-false, leb-true, eqb-true, or_left, or_right}
 
 -- No deal gives a total more than 128.
 module _ (most : ℕ) where
@@ -46,6 +47,39 @@ east_west_few d e =
 deal_few : (i : ℕ) (d : Deal) → deal_points d i ≤ 128
 deal_few i d =
     cond_both (nat_lt i 8) (points NorthSouth d i) (east_west d (i - 8)) (Few 128) (λ _. omega (arith, points_few NorthSouth d i)) (λ _. east_west_few d (i - 8))
+
+-- A deal without lines gives nothing.
+term_zero : (f : ℕ → ℕ) (n k : ℕ) → sum_below n f ≡ 0 → k < n → f k ≡ 0
+term_zero f n k h l = omega (arith, sum_without f k n l)
+
+empty_line : (x : Line) → ◌≡◌ {A = ℕ} (cond (filled x) 1 0) 0 → x ≡ None
+empty_line None h = refl
+empty_line (Some x) h = absurd (omega arith)
+
+no_lines_in : (d : Deal) → not (count d == 0) ≡ false → (b : ℕ) → b < 8 → line d b ≡ None
+no_lines_in d h b l = empty_line (line d b) (term_zero (filled_at d) 8 b (eqb-true (count d) 0 (not-false (count d == 0) h)) l)
+
+against_none : (side : Side) (x : Line) → against side x None ≡ 0
+against_none side None = refl
+against_none side (Some mine) = refl
+
+module _ (d : Deal) (none : (b : ℕ) → b < 8 → line d b ≡ None) where
+  no_points_from : (side : Side) (b i : ℕ) → i < 8 → points_from side d b i ≡ 0
+  no_points_from side b i l =
+      cond_both (i == b) 0 (against side (line d b) (line d i)) (λ n. n ≡ 0) (λ _. refl)
+      (λ _. ap (against side (line d b)) (none i l) ∙ against_none side (line d b))
+
+  no_points : (side : Side) (b : ℕ) → points side d b ≡ 0
+  no_points side b = sum_same (points_from side d b) (λ _. 0) 8 (no_points_from side b) ∙ sum_zero 8
+
+  no_east_west : (e : ℕ) → east_west d e ≡ 0
+  no_east_west e =
+      sum_same (east_west_at d e) (λ _. 0) 8 (λ b _. cond_both (has_pair e (line d b)) (points EastWest d b) 0 (λ n. n ≡ 0) (λ _. no_points EastWest b) (λ _. refl))
+      ∙ sum_zero 8
+
+  empty_points : (i : ℕ) → deal_points d i ≡ 0
+  empty_points i =
+      cond_both (nat_lt i 8) (points NorthSouth d i) (east_west d (i - 8)) (λ n. n ≡ 0) (λ _. no_points NorthSouth i) (λ _. no_east_west (i - 8))
 
 -- What an operation asks, case by case of its kind.
 module _ (o : Operation) (P : Result Ask Fault → Type 0) (refused : (fault : Fault) → P (Err fault)) where
@@ -124,6 +158,7 @@ bridge_fits = record {
   covers = covers;
   gains = deal_few;
   most = omega arith;
+  idle = λ i d h. empty_points d (no_lines_in d h) i;
   sized_empty = refl;
   sized_changed = sized_changed;
   sized_read = λ p i. ap (λ n. n == 8) (length-table 8 (λ b. read_line p (i + 3 * b)));

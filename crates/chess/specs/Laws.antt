@@ -1,5 +1,5 @@
 -- What the book of chess shows of its boards, so that it keeps the law of books.
-use Rattle.std.specs.Prelude.{◌≡◌, ℕ, ◌+◌, ◌<◌, ◌≤◌, ◌^◌, ◌-◌, true, cond, not, ◌&&◌, length, pos, Some, None, Ok, Err, Option, ◌==◌, nat_le, refl}
+use Rattle.std.specs.Prelude.{◌≡◌, ℕ, ◌+◌, ◌<◌, ◌≤◌, ◌^◌, ◌-◌, true, false, cond, not, ◌&&◌, length, pos, Some, None, Ok, Err, Option, ◌==◌, is_some, nat_le, refl}
 use Rattle.std.proofs.Common.{ap, ap₂, sym, subst, ◌∙◌, arith}
 use Rattle.book.proofs.Keys.{Held, held_one, held_below}
 use Rattle.book.specs.Model.{Page}
@@ -18,7 +18,7 @@ use Rattle.rounds.specs.Fits.{Covers, Fits}
 use Rattle.rounds.specs.declared.Fault.{Fault}
 use Rattle.rounds.specs.declared.Fault.TheVariants.{NoPlace, NoParty, UnknownKind}
 use Rattle.rounds.specs.declared.asks.Ask.TheVariants.{Cell, Close, Total}
-use Rattle.std.proofs.lemmas.Bool.{cond_both, leb-true, eqb-true, and_parts, cond-true}
+use Rattle.std.proofs.lemmas.Bool.{cond_both, leb-true, eqb-true, and_parts, cond-true, true≢false}
 
 outcome_again : (r : Option Outcome) → outcome (pos (result_number r)) ≡ r
 outcome_again None = refl
@@ -119,12 +119,18 @@ covers o =
     (λ k l. each k (omega (arith, l)), each 32 (omega arith)))
     (λ kind. subst (λ set. Held set 32) (sym (total_keys o kind)) (held_one 32))
 
+-- nobody gains at a board where nobody is seated
+unseated : (n : ℕ) (x : Option Game) → is_some x ≡ false → game_gain n x ≡ 0
+unseated n None h = refl
+unseated n (Some g) h = absurd (true≢false h)
+
 pub chess_fits : Fits 1 chess
 chess_fits = record {
   named = refl;
   covers = covers;
   gains = λ i x. gain_few (i + 1) x.game;
   most = omega arith;
+  idle = λ i x. unseated (i + 1) x.game;
   sized_empty = refl;
   sized_changed = λ x ask h. refl;
   sized_read = λ p i. refl;

@@ -1,20 +1,21 @@
 -- The entries that wait, in the memory of the queue.
-use Rattle.std.proofs.Common.{◌≡◌, ℕ, ◌-◌, ◌^◌, ◌<◌, ◌≤◌, max, not, eqb, true, false, List, length, get_or, set, take, sym, ap, ◌∙◌, subst, inr, arith}
+use Rattle.std.proofs.Common.{◌≡◌, ℕ, ◌-◌, ◌^◌, ◌<◌, ◌≤◌, max, not, eqb, true, false, List, length, get_or, set, take, refl, sym, ap, ◌∙◌, subst, inr, arith}
 use Rattle.std.specs.Prelude.{bit_or}
 use Rattle.congress.proofs.Kept.{voted_more, kept_at, kept_hall, kept_votes, kept_without}
-use Rattle.congress.specs.Kept.{kept}
+use Rattle.congress.specs.Kept.{locks, kept}
 use Rattle.congress.specs.Queue.{no_entry, entry_in, any_at, without}
 use Rattle.congress.specs.State.{Scene, no_hall}
 use Rattle.congress.specs.Tables.{with_mode}
-use Rattle.congress.specs.Votes.{counts, counted, count_vote, vote_on}
+use Rattle.congress.specs.Votes.{settled, counts, counted, count_vote, vote_on}
 use Rattle.congress.specs.declared.tables.Entry.{Entry}
 use Rattle.congress.specs.declared.tables.Hall.{Hall}
-use Rattle.congress.specs.declared.tables.Mode.TheVariants.{Timestamp}
+use Rattle.congress.specs.declared.tables.Mode.TheVariants.{Timestamp, Locking}
+use Rattle.congress.specs.declared.tables.Mode.{Mode}
 use Rattle.records.specs.Halls.{names}
 use Rattle.records.specs.declared.messages.Vote.{Vote}
-use Rattle.std.proofs.lemmas.Bool.{and_parts, cond-true}
+use Rattle.std.proofs.lemmas.Bool.{and_parts, cond-true, cond_both, true≢false}
 use Rattle.std.proofs.Math.Seq.{take-set-lt, take-take}
-use Rattle.std.proofs.lemmas.List.{length-take-le, get_or-take}
+use Rattle.std.proofs.lemmas.List.{length-take-le, get_or-take, set-get_or}
 
 pub set_in : (queue : List Entry) (n i : ℕ) (e : Entry) → i < n → take n (set queue i e) ≡ set (take n queue) i e
 set_in queue n i e l = take-set-lt n queue i e l
@@ -40,6 +41,21 @@ kept_removed_in halls queue n i l fits k =
 -- a hall without entries is back in timestamp mode
 pub kept_settles : (halls : List Hall) (es : List Entry) (h : ℕ) → any_at h es ≡ false → kept halls es ≡ true → kept (set halls h (with_mode (get_or halls h no_hall) Timestamp)) es ≡ true
 kept_settles halls es h none k = kept_hall halls es h (with_mode (get_or halls h no_hall) Timestamp) k (λ c. omega arith) (λ _. inr none)
+
+-- a hall in timestamp mode stays as it is
+same_mode : (hall : Hall) (mode : Mode) → hall.mode ≡ mode → with_mode hall mode ≡ hall
+same_mode hall mode e = ap (with_mode hall) (sym e)
+
+not_locking : (mode : Mode) → locks mode ≡ false → mode ≡ Timestamp
+not_locking Timestamp e = refl
+not_locking Locking e = absurd (true≢false e)
+
+pub settled_stays : (halls : List Hall) (es : List Entry) (h : ℕ) → locks (get_or halls h no_hall).mode ≡ false
+    → set halls h (settled es h (get_or halls h no_hall)) ≡ halls
+settled_stays halls es h e =
+    let hall = get_or halls h no_hall in
+    let same : settled es h hall ≡ hall = cond_both (any_at h es) hall (with_mode hall Timestamp) (λ x. x ≡ hall) (λ _. refl) (λ _. same_mode hall Timestamp (not_locking hall.mode e)) in
+    ap (set halls h) same ∙ set-get_or halls h no_hall
 
 -- a vote that counts keeps what is kept
 pub kept_counts : (halls : List Hall) (es : List Entry) (i : ℕ) (e : Entry) (v : Vote) → kept halls es ≡ true → i < length es → entry_in es i ≡ e → counts e v.from ≡ true

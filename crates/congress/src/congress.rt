@@ -112,7 +112,7 @@ impl Congress {
             high: old.high,
             operation: operations[0],
         };
-        self.send_requests(post, draft, operations);
+        self.send_requests(post, draft, &operations);
         Ok(transaction)
     }
 

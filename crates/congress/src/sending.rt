@@ -42,10 +42,10 @@ impl Congress {
         &mut self,
         post: &mut [Message],
         draft: Request,
-        operations: [Operation; 8],
+        operations: &[Operation; 8],
     )
-        requires { self.old.count + length (requests draft operations) ≤ min (length post.old) 1024 }
-        ensures { with_post self.new post.new ≡ posting (with_post self.old post.old) (requests draft operations) }
+        requires { self.old.count + length (requests draft operations.now) ≤ min (length post.old) 1024 }
+        ensures { with_post self.new post.new ≡ posting (with_post self.old post.old) (requests draft operations.now) }
     {
         for (hall, operation) in operations.iter().enumerate() {
             let to = hall as u8;

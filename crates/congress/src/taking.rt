@@ -1,10 +1,11 @@
 // Deliver, of a request: what its hall then holds, what it sends and what is told.
-ghost use Rattle.std.specs.Prelude.{◌≡◌, ℕ, ◌<◌, ◌≤◌, true, false, cond, ◌&&◌, Err, [], ◌∷◌, ◌++◌, Ok, length, slice_set};
+ghost use Rattle.std.specs.Prelude.{◌≡◌, ℕ, ◌<◌, ◌≤◌, max, true, false, cond, ◌&&◌, Err, [], ◌∷◌, ◌++◌, Ok, length, slice_set};
 ghost use Rattle.book.specs.Model.{Page};
-ghost use Rattle.congress.specs.Kept.{kept};
+ghost use Rattle.congress.specs.Kept.{locks, kept};
 ghost use Rattle.congress.specs.Meaning.{state, with_post, scene_of};
 ghost use Rattle.congress.specs.Requests.{recorded, locked_for, entry_for, falling, sent, fallen, taken_as, places_for, take_as, fate, needs_entry, full, is_old, request_step};
 ghost use Rattle.congress.specs.State.{Scene, hall_at, with_hall, with_entries, lacks_room};
+ghost use Rattle.congress.specs.Tables.{with_last};
 ghost use Rattle.congress.specs.declared.fates.Fate.TheVariants.{Enters, Runs};
 ghost use Rattle.records.specs.Halls.{names};
 
@@ -21,32 +22,38 @@ use records::{
 };
 
 impl Hall {
-    // It has recorded a transaction's sequence.
-    fn recorded(mut self, transaction: u32) -> Hall
-        ensures { result ≡ recorded self transaction }
+    // It records a transaction's sequence.
+    fn record(&mut self, transaction: u32)
+        ensures { self.new ≡ recorded self.old transaction }
     {
         self.taken[console_of(transaction) as usize] = sequence_of(transaction);
-        self
     }
 
     // A coordinated part that waits keeps it in locking mode.
-    fn locked_for(mut self, class: Class) -> Hall
-        ensures { result ≡ locked_for self class }
+    fn lock_for(&mut self, class: Class)
+        ensures { self.new ≡ locked_for self.old class }
     {
         if class == Class::Coordinated {
             self.mode = Mode::Locking;
         }
-        self
+    }
+
+    // Whether it is in locking mode once it keeps a part of this class.
+    fn locks_for(&self, class: Class) -> bool
+        ensures { result ≡ locks (locked_for self.now class).mode }
+    {
+        class == Class::Coordinated || self.is_locking()
     }
 }
 
 // A part that waits, with the vote of its own hall; keys are held in locking mode alone.
 fn entry_for<B: Book>(hall: Hall, request: Request, stamp: u64) -> Entry
     requires { request.to < 8 }
-    ensures { result ≡ entry_for B.model hall request stamp }
+    ensures entry { result ≡ entry_for B.model hall request stamp }
+    ensures wide { length hall.taken ≡ 16 }
 {
     let class = class_in(&request);
-    let keys = if hall.locked_for(class).is_locking() {
+    let keys = if hall.locks_for(class) {
         B::keys(request.operation)
     } else {
         0
@@ -64,23 +71,38 @@ fn entry_for<B: Book>(hall: Hall, request: Request, stamp: u64) -> Entry
 }
 
 impl Congress {
-    // One hall becomes another.
-    fn set_hall(&mut self, hall: u8, value: Hall)
+    // A hall records a transaction's sequence, which is new.
+    #[tactic(auto, using(crate::proofs::Takes::kept_records))]
+    fn record(&mut self, hall: u8, transaction: u32)
         requires exists { hall < 8 }
-        requires keeps { kept (slice_set (state self.old).halls hall value) (state self.old).entries ≡ true }
-        ensures { state self.new ≡ with_hall (state self.old) hall value }
+        requires new { is_old (hall_at (state self.old) hall) transaction ≡ false }
+        ensures { state self.new ≡ with_hall (state self.old) hall (recorded (hall_at (state self.old) hall) transaction) }
     {
-        self.halls[hall as usize] = value;
+        self.halls[hall as usize].record(transaction);
     }
 
-    // An entry comes to the end of the queue, and its hall becomes another.
-    fn push(&mut self, hall: Hall, entry: Entry)
+    // And has done a part with this stamp.
+    #[tactic(auto, using(crate::proofs::Takes::kept_records))]
+    fn record_done(&mut self, hall: u8, transaction: u32, stamp: u64)
+        requires exists { hall < 8 }
+        requires new { is_old (hall_at (state self.old) hall) transaction ≡ false }
+        ensures { state self.new ≡ with_hall (state self.old) hall (with_last (recorded (hall_at (state self.old) hall) transaction) (max (hall_at (state self.old) hall).last stamp)) }
+    {
+        let hall = &mut self.halls[hall as usize];
+        hall.record(transaction);
+        hall.last = hall.last.max(stamp);
+    }
+
+    // An entry comes to the end of the queue, and its hall records its sequence.
+    fn push(&mut self, entry: Entry)
         requires exists { entry.hall < 8 }
         requires room { self.old.waiting < 64 }
-        requires keeps { kept (slice_set (state self.old).halls entry.hall hall) ((state self.old).entries ++ entry ∷ []) ≡ true }
-        ensures { state self.new ≡ with_entries (with_hall (state self.old) entry.hall hall) ((state self.old).entries ++ entry ∷ []) }
+        requires keeps { kept (slice_set (state self.old).halls entry.hall (locked_for (recorded (hall_at (state self.old) entry.hall) entry.transaction) entry.class)) ((state self.old).entries ++ entry ∷ []) ≡ true }
+        ensures { state self.new ≡ with_entries (with_hall (state self.old) entry.hall (locked_for (recorded (hall_at (state self.old) entry.hall) entry.transaction) entry.class)) ((state self.old).entries ++ entry ∷ []) }
     {
-        self.halls[entry.hall as usize] = hall;
+        let hall = &mut self.halls[entry.hall as usize];
+        hall.record(entry.transaction);
+        hall.lock_for(entry.class);
         self.queue[self.waiting] = entry;
         self.waiting += 1;
     }
@@ -121,10 +143,7 @@ impl Congress {
     {
         let hall = self.halls[request.to as usize];
         let entry = entry_for::<B>(hall, request, stamp);
-        self.push(
-            hall.recorded(request.transaction).locked_for(entry.class),
-            entry,
-        );
+        self.push(entry);
         self.send_votes(
             post,
             request.transaction,
@@ -143,7 +162,6 @@ impl Congress {
     }
 
     // A single is done at once.
-    #[tactic(auto, using(crate::proofs::Takes::kept_records))]
     fn run_at_once<B: Book>(
         &mut self,
         book: &mut B,
@@ -156,12 +174,7 @@ impl Congress {
         requires room { lacks_room (with_post self.old post.old) 1 ≡ false }
         ensures { (Ok result, scene_of self.new post.new (B.pages book.new)) ≡ taken_as B.model (scene_of self.old post.old (B.pages book.old)) request stamp Runs }
     {
-        let hall = self.halls[request.to as usize];
-        let done = Hall {
-            last: hall.last.max(stamp),
-            ..hall.recorded(request.transaction)
-        };
-        self.set_hall(request.to, done);
+        self.record_done(request.to, request.transaction, stamp);
         let answer = book.run(request.to, request.operation);
         self.send_reply(
             post,
@@ -181,7 +194,7 @@ impl Congress {
     }
 
     // The part falls: its hall votes so, and replies with this answer.
-    #[tactic(auto, using(crate::proofs::Takes::kept_records, crate::proofs::Sent::posting_push))]
+    #[tactic(auto, using(crate::proofs::Sent::posting_push))]
     fn fall(
         &mut self,
         post: &mut [Message],
@@ -196,8 +209,7 @@ impl Congress {
         requires room { lacks_room (with_post self.old post.old) (length (falling request stamp status answer)) ≡ false }
         ensures { (pages : ℕ → Page) → (Ok result, scene_of self.new post.new pages) ≡ fallen (scene_of self.old post.old pages) request stamp status outcome answer }
     {
-        let hall = self.halls[request.to as usize];
-        self.set_hall(request.to, hall.recorded(request.transaction));
+        self.record(request.to, request.transaction);
         let number = u8::from(status);
         self.send_votes(
             post,
@@ -316,7 +328,7 @@ impl Congress {
         requires named { names request.halls request.to ≡ true }
         ensures { (result, scene_of self.new post.new (B.pages book.new)) ≡ request_step B.model (scene_of self.old post.old (B.pages book.old)) request }
     {
-        let hall = self.halls[request.to as usize];
+        let hall = &self.halls[request.to as usize];
         if hall.is_old(request.transaction) {
             return Ok(Report::default());
         }

@@ -67,12 +67,13 @@ impl Congress {
     }
 
     // A hall without entries is back in timestamp mode.
-    #[tactic(auto, using(crate::proofs::Memory::kept_settles))]
+    #[tactic(auto, using(crate::proofs::Memory::kept_settles, crate::proofs::Memory::settled_stays))]
     fn settle(&mut self, hall: u8)
         requires { hall < 8 }
         ensures { state self.new ≡ with_hall (state self.old) hall (settled (state self.old).entries hall (hall_at (state self.old) hall)) }
     {
-        if !self.has_entries(hall) {
+        // the queue need not be looked through where the mode can only stay
+        if self.halls[hall as usize].is_locking() && !self.has_entries(hall) {
             self.halls[hall as usize].mode = Mode::Timestamp;
         }
     }

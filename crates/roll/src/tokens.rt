@@ -61,6 +61,7 @@ impl Tokens {
     }
 
     // What an operation asks at a hall: nothing, where its grant does not stand.
+    #[inline(always)]
     pub(crate) fn admit(&self, hall: Below<HALLS>, op: Operation) -> Result<Ask, Refused>
         ensures { result ≡ admitted (hall_tokens self.now.tokens hall) op }
     {

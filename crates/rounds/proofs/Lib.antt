@@ -1,2 +1,3 @@
 pub mod Stay
 pub mod Numbers
+pub mod Gains

@@ -1,5 +1,5 @@
 -- What a game has to show of its cells.
-use Rattle.std.specs.Prelude.{◌≡◌, ℕ, ◌+◌, ◌*◌, ◌<◌, ◌≤◌, true, length, Ok, Err, Result}
+use Rattle.std.specs.Prelude.{◌≡◌, ℕ, ◌+◌, ◌*◌, ◌<◌, ◌≤◌, true, false, length, Ok, Err, Result}
 use Rattle.book.proofs.Keys.{Held}
 use Rattle.book.specs.Model.{Page}
 use Rattle.book.specs.Numbers.{at}
@@ -22,6 +22,8 @@ pub record Fits {C A : Type 0} {cells totals : ℕ} (layer : ℕ) (g : Game C A 
   -- no round gives a total more than 2048
   pub gains : (i : ℕ) (x : C) → g.gain i x ≤ g.most
   pub most : g.most * cells ≤ 2048
+  -- an unused cell gives nothing
+  pub idle : (i : ℕ) (x : C) → g.used x ≡ false → g.gain i x ≡ 0
   -- every cell that is read or made has its size
   pub sized_empty : g.sized g.empty ≡ true
   pub sized_changed : (x : C) (ask : A) → g.sized x ≡ true → g.sized (g.changed x ask) ≡ true

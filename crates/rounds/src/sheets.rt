@@ -1,5 +1,5 @@
 // The sheet of a hall, and what each operation answers and makes of it.
-ghost use Rattle.std.specs.Prelude.{◌≡◌, ◌≤◌, true, pos, is_ok, option_map, slice_index};
+ghost use Rattle.std.specs.Prelude.{◌≡◌, ℕ, ◌+◌, ◌≤◌, true, pos, is_ok, option_map, slice_index};
 ghost use Rattle.std.specs.List.{slice_get};
 ghost use Rattle.book.specs.Below.{some_below, all_below};
 ghost use Rattle.rounds.specs.Kept.{KeptSheet};
@@ -65,17 +65,15 @@ impl<C: Cell<CELLS, TOTALS>, const CELLS: usize, const TOTALS: usize> Sheet<C, C
         is_in_turn(self.round, round) && self.is_some_used() && self.are_all_settled()
     }
 
-    // What a total gains from all cells.
-    fn gained(&self, total: usize) -> u32
-        ensures value { result ≡ gained C.game self.now total }
-        ensures few { result ≤ 2048 }
+    // The totals become those with what each gains from a cell.
+    fn add_gains(cell: &C, totals: &mut [u32])
+        requires small { (i : ℕ) → slice_index totals.old i + C.game.gain i cell.now ≤ 204800 }
+        ensures { totals.new ≡ raised totals.old (λ i. C.game.gain i cell.now) }
     {
-        // no `sum`: the check does not see that its total fits
-        let mut sum = 0;
-        for cell in &self.cells {
-            sum += cell.gain(total);
+        // by index: `iter_mut` leaves nothing known of the array, and for `array::from_fn` the check makes no proof
+        for i in 0..totals.len() {
+            totals[i] += cell.gain(i);
         }
-        sum
     }
 
     // The totals with what the round gives to each.
@@ -85,9 +83,11 @@ impl<C: Cell<CELLS, TOTALS>, const CELLS: usize, const TOTALS: usize> Sheet<C, C
         ensures { result ≡ raised self.now.totals (gained C.game self.now) }
     {
         let mut totals = self.totals;
-        // by index: `iter_mut` leaves nothing known of the array, and for `array::from_fn` the check makes no proof
-        for i in 0..TOTALS {
-            totals[i] += self.gained(i);
+        for cell in &self.cells {
+            // most cells are unused in most rounds, and give nothing
+            if cell.is_used() {
+                Self::add_gains(cell, &mut totals);
+            }
         }
         totals
     }
@@ -117,11 +117,11 @@ impl<C: Cell<CELLS, TOTALS>, const CELLS: usize, const TOTALS: usize> Kept<C, CE
         requires { self.old.sheet.round ≤ 99 }
         ensures { self.new.sheet ≡ closed C.game self.old.sheet }
     {
-        self.sheet = Sheet {
-            round: self.sheet.round + 1,
-            cells: [C::empty(); CELLS],
-            totals: self.sheet.raised(),
-        };
+        let totals = self.sheet.raised();
+        let cells = [C::empty(); CELLS];
+        self.sheet.round += 1;
+        self.sheet.cells = cells;
+        self.sheet.totals = totals;
     }
 
     fn total(&self, place: Below<TOTALS>) -> i32
@@ -131,6 +131,7 @@ impl<C: Cell<CELLS, TOTALS>, const CELLS: usize, const TOTALS: usize> Kept<C, CE
     }
 
     // The value of what would be well done, or why it is not done.
+    #[inline(always)]
     fn say(&self, ask: Ask<C::Ask, CELLS, TOTALS>) -> Result<i32, Fault>
         ensures { result ≡ says C.game self.now.sheet ask }
     {

@@ -12,15 +12,15 @@ use Rattle.records.specs.declared.messages.Message.{Message}
 pub send-requires : goal.send-requires
 send-requires c =
     let d = c.args.draft in
-    let message : ℕ → Message = λ k. request (to_hall d k (get_or c.args.operations k no_operation)) in
+    let message : ℕ → Message = λ k. request (to_hall d k (get_or c.args.operations.now k no_operation)) in
     room_for (bit d.halls) message (with_post c.args.self.now c.args.post.now) (with_post c.loop-hall.self c.loop-hall.post) c.loop-hall.hall 8
     c.loop-hall.invariant c.loop-hall-test.true (sym c.is_asked.ensures ∙ c.if-is_asked.true)
-    (subst (λ (l : List Message). c.args.self.now.count + length l ≤ min (length c.args.post.now) 1024) (sym (requests_is d c.args.operations)) c.requires)
+    (subst (λ (l : List Message). c.args.self.now.count + length l ≤ min (length c.args.post.now) 1024) (sym (requests_is d c.args.operations.now)) c.requires)
 
 pub loop-hall-preserved : goal.loop-hall-preserved
 loop-hall-preserved c =
     let d = c.args.draft in
-    let os = c.args.operations in
+    let os = c.args.operations.now in
     let h = c.loop-hall.hall in
     let w = with_post c.args.self.now c.args.post.now in
     let message : ℕ → Message = λ k. request (to_hall d k (get_or os k no_operation)) in

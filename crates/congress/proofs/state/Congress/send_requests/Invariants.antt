@@ -7,4 +7,4 @@ use Rattle.congress.specs.State.{posting}
 -- the requests to the halls so far are sent
 abbrev pub invariant-loop-hall : goal.invariant-loop-hall
 invariant-loop-hall l =
-    with_post l.self l.post ≡ posting (with_post l.initial.self l.initial.post) (requests_below l.draft l.operation-items l.hall)
+    with_post l.self l.post ≡ posting (with_post l.initial.self l.initial.post) (requests_below l.draft l.operations l.hall)

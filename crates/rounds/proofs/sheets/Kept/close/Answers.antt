@@ -9,6 +9,6 @@ invariant_of-self g c =
     let game = g.C.Cell.game in
     record {
       kept = subst (KeptSheet game)
-          (sym (ap₂ (λ x y. record { round = s.round + 1; cells = replicate g.row.CELLS x; totals = y }) c.empty.ensures c.raised.ensures))
+          (sym (ap₂ (λ x y. record { round = s.round + 1; cells = replicate g.row.CELLS x; totals = y }) c.empty-cells.ensures c.raised-totals.ensures))
           (kept_closed game g.met.C.Cell.fits s c.requires c.args.self.now.kept);
     }

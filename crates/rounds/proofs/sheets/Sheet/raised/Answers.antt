@@ -1,26 +1,30 @@
-use Rattle.std.proofs.Common.{◌≡◌, ℕ, ◌+◌, ◌<◌, length, get_or, set, length-set, get_or-set_other, ap, ap₂, ◌∙◌, arith, rules}
-use Rattle.book.proofs.Below.{table_all}
+use Rattle.std.proofs.Common.{◌<◌, length, sym, ◌∙◌, rules}
+use Rattle.rounds.proofs.Gains.{before_cells, with_gains, without_gains, has_room}
 use Rattle.rounds.proofs.sheets.Sheet.raised.Goals as goal
-use Rattle.rounds.specs.Sheets.{gained}
-use Rattle.std.proofs.lemmas.List.Edits.{fill_by_more}
+use Rattle.rounds.proofs.sheets.Sheet.raised.Goals.{then-is_used, else-is_used}
+use Rattle.std.proofs.lemmas.List.{get_or_default}
 
-pub loop-i-preserved : goal.loop-i-preserved
-loop-i-preserved g c =
-    let s = c.args.self.now in
-    let i = c.loop-i.i in
-    let xs = c.loop-i.totals in
-    let raised : ℕ → ℕ = λ k. get_or s.totals k 0 + gained g.C.Cell.game s k in
-    let many : length s.totals ≡ g.row.TOTALS = search rules in
-    let inside : i < length xs = omega (arith, many, c.loop-i.invariant.0, c.loop-i-test.true) in
-    let new : get_or xs i 0 + c.gained.result ≡ raised i = ap₂ (λ x y. x + y) (c.loop-i.invariant.2 i (omega arith)) c.gained.ensures.value in (
-      length-set xs i (get_or xs i 0 + c.gained.result) ∙ c.loop-i.invariant.0,
-      λ k h. ap (λ x. get_or (set xs i x) k 0) new ∙ fill_by_more raised xs i 0 inside c.loop-i.invariant.1 k h,
-      λ k h. get_or-set_other xs i k (get_or xs i 0 + c.gained.result) 0 (λ e. omega (arith, e, h)) ∙ c.loop-i.invariant.2 k (omega arith),
-    )
+pub loop-cell-init : goal.loop-cell-init
+loop-cell-init g c = before_cells g.C.Cell.game g.met.C.Cell.fits c.args.self.now
 
-pub returns : goal.returns
-returns g c =
+pub add_gains-requires : goal.add_gains-requires
+add_gains-requires g c =
     let s = c.args.self.now in
-    let many : length s.totals ≡ g.row.TOTALS = search rules in
-    table_all (length s.totals) (λ k. get_or s.totals k 0 + gained g.C.Cell.game s k) c.loop-i.totals 0
-    c.loop-i.invariant.0 (λ k h. c.loop-i.invariant.1 k (omega (arith, many, c.loop-i-test.false)))
+    let i = c.loop-cell.cell-index in
+    let game = g.C.Cell.game in
+    let inside : i < length s.cells = search rules in
+    let item = get_or_default s.cells i c.cell-item.result game.empty inside in
+    record { small = has_room game g.met.C.Cell.fits s i _ c.loop-cell.totals item c.loop-cell.invariant c.loop-cell-test.true c.requires.last c.requires.small }
+
+pub loop-cell-preserved : goal.loop-cell-preserved
+loop-cell-preserved g c =
+    let s = c.args.self.now in
+    let i = c.loop-cell.cell-index in
+    let game = g.C.Cell.game in
+    let inside : i < length s.cells = search rules in
+    let item = get_or_default s.cells i c.cell-item.result game.empty inside in
+    let before = c.loop-cell.invariant in
+    elim c.if-is_used.branch [
+      | then-is_used w ↦ w.totals-is ∙ with_gains game g.met.C.Cell.fits s i _ c.loop-cell.totals item before w.add_gains.new.totals w.add_gains.ensures
+      | else-is_used w ↦ w.totals-is ∙ without_gains game g.met.C.Cell.fits s i _ c.loop-cell.totals item before (sym c.is_used.ensures ∙ w.if-is_used.false)
+    ]

@@ -1,10 +1,8 @@
-use Rattle.std.proofs.Common.{◌≡◌, ℕ, ◌+◌, ◌<◌, ◌≤◌, length, get_or}
+use Rattle.std.proofs.Common.{◌≡◌}
+use Rattle.rounds.proofs.Gains.{so_far}
 use Rattle.rounds.proofs.sheets.Sheet.raised.Given as goal
-use Rattle.rounds.specs.Sheets.{gained}
+use Rattle.rounds.specs.Rounds.{raised}
 
--- the totals below i are raised, the others as they were
-abbrev pub invariant-loop-i : goal.invariant-loop-i
-invariant-loop-i g l =
-    (length l.totals ≡ length l.self.totals)
-    × ((k : ℕ) → k < l.i → get_or l.totals k 0 ≡ get_or l.self.totals k 0 + gained g.C.Cell.game l.self k)
-    × ((k : ℕ) → l.i ≤ k → get_or l.totals k 0 ≡ get_or l.self.totals k 0)
+-- the totals have what the cells so far give
+abbrev pub invariant-loop-cell : goal.invariant-loop-cell
+invariant-loop-cell g l = l.totals ≡ raised l.self.totals (so_far g.C.Cell.game g.met.C.Cell.fits l.self l.cell-index)
