@@ -4,6 +4,7 @@ ghost use Rattle.congress.specs.Meaning.{scene_of};
 ghost use Rattle.order.specs.Conduct.{told};
 ghost use Rattle.order.specs.Runs.{beginning};
 ghost use Rattle.picture.specs.Pictures.{arrows_of};
+ghost use Rattle.picture.specs.Posts.{TrueToPost};
 
 use crate::arrows::Arrow;
 use crate::ledger::Ledger;
@@ -27,7 +28,9 @@ fn first_places(post: &[Message], count: usize) -> &[Message]
     post.get(..count).unwrap_or(post)
 }
 
-// Makes the calls of a list in turn.
+// Makes the calls of a list in turn. What is written down of the messages in the post is true of them after each call, if none
+// was there before the first; so an arrow is that of the message that was delivered or dropped.
+#[tactic(auto, using(crate::proofs::Posts::true_to_post))]
 pub fn picture_of<B: Book>(
     heap: Global,
     congress: &mut Congress,
@@ -36,6 +39,7 @@ pub fn picture_of<B: Book>(
     calls: &[Call],
 ) -> Result<Picture, AllocError>
     ensures told { IfOk result (λ p. p.told.items ≡ told B.model calls.now (beginning (scene_of congress.old post.old (B.pages book.old)))) }
+    ensures posts { TrueToPost B.model calls.now (scene_of congress.old post.old (B.pages book.old)) }
     ensures arrows { IfOk result (λ p. p.arrows.items ≡ arrows_of B.model calls.now (scene_of congress.old post.old (B.pages book.old))) }
 {
     let mut told = Vec::new(heap);
