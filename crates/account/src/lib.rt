@@ -14,7 +14,7 @@ use roll::Roll;
 use scoring::{headings_of, score, standings_of};
 use std::io;
 use std::io::Read;
-pub use words::Entry;
+pub use words::{By, Entry, What, cause_words};
 
 // Scores a sheet in a book, and prints the account.
 fn score_in<B: Book + Drop>(rt: &HostRuntime, mut book: B, text: &[u8]) -> io::Result<()> {

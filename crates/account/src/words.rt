@@ -46,7 +46,7 @@ fn words_of_bridge(fault: Fault) -> Option<&'static str> {
 }
 
 // Why an entry was refused.
-fn cause_words(layer: u8, cause: u8) -> &'static str {
+pub fn cause_words(layer: u8, cause: u8) -> &'static str {
     if cause == book::NO_HALL {
         return "no such hall";
     }
@@ -155,7 +155,7 @@ impl From<u8> for Kind {
 
 // What an entry asks.
 #[derive(Clone, Copy, Debug, PartialEq, Eq, Hash)]
-struct What(Operation);
+pub struct What(pub Operation);
 
 impl fmt::Display for What {
     fn fmt<W: fmt::Write>(&self, f: &mut fmt::Formatter<W>) -> fmt::Result {
@@ -193,7 +193,7 @@ impl fmt::Display for What {
 
 // By whom an entry was made, where it was not the chief.
 #[derive(Clone, Copy, Debug, PartialEq, Eq, Hash)]
-struct By(u8);
+pub struct By(pub u8);
 
 impl fmt::Display for By {
     fn fmt<W: fmt::Write>(&self, f: &mut fmt::Formatter<W>) -> fmt::Result {

@@ -2,6 +2,8 @@
 
 // What `--help` prints.
 pub const HELP: &str = "rehearse [SCRIPT ..]   makes the calls of each script, or of standard input
+rehearse --picture [SCRIPT]
+                       prints them as a picture, which a browser shows
 rehearse --help        prints this
 
 Headings, before the first call:

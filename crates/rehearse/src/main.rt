@@ -1,5 +1,5 @@
 // Makes the calls of a script, from files or from standard input, one after another at a congress, and prints what each told
-// and how the halls stand after them.
+// and how the halls stand after them, or a picture of the calls.
 #![tactic(auto)]
 
 ghost use Rattle.std.specs.Prelude.{◌≡◌, IfOk, OnOk};
@@ -10,6 +10,7 @@ mod halls;
 mod help;
 mod history;
 mod lines;
+mod pictures;
 mod telling;
 
 use book::Book;
@@ -22,6 +23,7 @@ use help::HELP;
 use history::history_of;
 use lines::{Script, read_script};
 use order::{Said, conduct};
+use pictures::draw;
 use records::{Message, Request};
 use roll::Roll;
 use std::alloc::{AllocError, Global};
@@ -54,8 +56,16 @@ fn told_by<B: Book>(
     Ok((told, congress.halls()))
 }
 
+// What is printed of a script.
+#[derive(Clone, Copy, Debug, PartialEq, Eq, Hash)]
+enum Form {
+    // what its calls tell, and the account
+    Account,
+    Picture,
+}
+
 // Makes the calls of a script over a roll, and prints what they tell and the account.
-fn rehearse_over<B: Book + Drop>(
+fn rehearse<B: Book + Drop>(
     rt: &HostRuntime,
     script: &Script,
     mut roll: Roll<B>,
@@ -67,54 +77,80 @@ fn rehearse_over<B: Book + Drop>(
     print_account(rt, script.at, halls, &roll, done.as_slice())
 }
 
+fn rehearse_over<B: Book + Drop>(
+    rt: &HostRuntime,
+    form: Form,
+    script: &Script,
+    roll: Roll<B>,
+) -> io::Result<()> {
+    match form {
+        Form::Account => rehearse(rt, script, roll),
+        Form::Picture => draw(rt, script, roll),
+    }
+}
+
 // Makes the calls of a script over a roll on the book that `new` makes. The book is made here and not by the caller, since
 // the borrow checker does not find the type bridge::sheet::Entry in this crate.
 fn rehearse_on<B: Book + Drop, N: FnOnce() -> B>(
     rt: &HostRuntime,
+    form: Form,
     script: &Script,
     new: N,
 ) -> io::Result<()>
     requires { N.IsAlwaysCallable new }
 {
-    rehearse_over(rt, script, Roll::new(script.at.chief, new()))
+    rehearse_over(rt, form, script, Roll::new(script.at.chief, new()))
 }
 
 // Makes the calls of one script.
-fn rehearse_text(rt: &HostRuntime, text: &[u8]) -> io::Result<()> {
+fn rehearse_text(rt: &HostRuntime, form: Form, text: &[u8]) -> io::Result<()> {
     let script = read_script(rt.alloc(), text)?;
     match script.at.game {
-        Game::Chess => rehearse_on(rt, &script, Chess::new),
-        Game::Bridge => rehearse_on(rt, &script, Bridge::new),
+        Game::Chess => rehearse_on(rt, form, &script, Chess::new),
+        Game::Bridge => rehearse_on(rt, form, &script, Bridge::new),
     }
 }
 
-fn rehearse_input(rt: &HostRuntime) -> io::Result<()> {
+fn rehearse_input(rt: &HostRuntime, form: Form) -> io::Result<()> {
     let mut text = Vec::new(rt.alloc());
     rt.stdin().read_to_end(&mut text)?;
-    rehearse_text(rt, text.as_slice())
+    rehearse_text(rt, form, text.as_slice())
 }
 
-// Each file is a rehearsal of its own, under its name.
-fn rehearse_file(rt: &HostRuntime, name: &str, is_first: bool) -> io::Result<()> {
-    let text = fs::read(rt, name)?;
+// What stands before the rehearsal of a file; nothing stands before a picture, which is a file of its own.
+fn print_name(rt: &impl Print, form: Form, name: &str, is_first: bool) -> io::Result<()> {
+    if form == Form::Picture {
+        return Ok(());
+    }
     if !is_first {
         println!(rt; "")?;
     }
-    println!(rt; "script {name}")?;
-    rehearse_text(rt, text.as_slice())
+    println!(rt; "script {name}")
+}
+
+// Each file is a rehearsal of its own.
+fn rehearse_file(rt: &HostRuntime, form: Form, name: &str, is_first: bool) -> io::Result<()> {
+    let text = fs::read(rt, name)?;
+    print_name(rt, form, name, is_first)?;
+    rehearse_text(rt, form, text.as_slice())
 }
 
 fn main(rt: HostRuntime) -> io::Result<()> {
+    let mut form = Form::Account;
     let mut is_first = true;
-    for name in env::args(&rt)?.skip(1) {
-        if is_first && name.as_str() == "--help" {
-            return println!(rt; "{HELP}");
+    for argument in env::args(&rt)?.skip(1) {
+        match argument.as_str() {
+            "--help" if is_first => return println!(rt; "{HELP}"),
+            "--picture" => form = Form::Picture,
+            name => {
+                rehearse_file(&rt, form, name, is_first)?;
+                form = Form::Account;
+                is_first = false;
+            }
         }
-        rehearse_file(&rt, name.as_str(), is_first)?;
-        is_first = false;
     }
-    if is_first {
-        return rehearse_input(&rt);
+    if is_first || form == Form::Picture {
+        return rehearse_input(&rt, form);
     }
     Ok(())
 }

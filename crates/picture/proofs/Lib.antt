@@ -1,0 +1,2 @@
+pub mod Posts
+pub mod Turns
