@@ -69,8 +69,8 @@ pub const WORK: u8 = 3;
 pub const CLOCK: u8 = 4;
 pub const DROP: u8 = 5;
 
-/// What each hall is asked by an Issue. These rows are a list of their own, so that a list of calls takes few bytes, and
-/// memory costs little beside the calls.
+/// What each hall is asked by an Issue. These rows are a list of their own, so that a list of calls
+/// takes few bytes, and memory costs little beside the calls.
 #[derive(Clone, Copy, Default)]
 #[repr(C)]
 pub struct PartsRow {

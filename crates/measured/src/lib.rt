@@ -19,7 +19,8 @@ use rounds::Kept;
 use rows::{CallRow, PartsRow, ToldRow};
 
 // Makes the calls at a congress not yet opened, over a new roll on a new book of chess, with 1,024 places in the post;
-// writes what each told, and at the end the pages. Nothing is done where there are fewer places for what is told than calls.
+// writes what each told, and at the end the pages. Nothing is done where there are fewer places for what is told than
+// calls.
 #[unsafe(no_mangle)]
 pub extern "C" fn measure_chess(
     chief: u32,

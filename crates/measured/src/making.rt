@@ -16,7 +16,7 @@ use congress::Congress;
 use records::{Message, Request};
 use roll::Roll;
 
-// So many numbers are written for each hall, whatever its page has.
+// So many numbers are written for each hall, which is more than a page has.
 const WIDTH: usize = 512;
 
 const POST_PLACES: usize = 1024;
@@ -106,8 +106,8 @@ fn measure<B: Book + Drop>(
     true
 }
 
-// And over a new book with this part at each hall. The book is made here and not by the exports, since the borrow checker does
-// not find the types within it there.
+// And over a new book with this part at each hall. The book is made here and not by the exports, since there the borrow
+// checker does not find the types within it.
 pub(crate) fn measure_new<H: Hall + Copy>(
     chief: u32,
     parts: &[PartsRow],
