@@ -1,5 +1,5 @@
 // Scores one hall's sheet from standard input and prints the account. The gate runs a program crate on one sheet, so
-// scoresheet_long and scoresheet_bridge have the same text.
+// scoresheet_long, scoresheet_bridge and scoresheet_nowhere have the same text.
 #![tactic(auto)]
 
 use account::score_input;
