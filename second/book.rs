@@ -149,16 +149,23 @@ impl<P: Page> Book<P> {
 
     /// What `run` would answer.
     pub fn verdict(&self, hall: u8, operation: Operation) -> Answer<P> {
-        self.clone().run(hall, operation)
+        match self.pages.get(usize::from(hall)) {
+            Some(page) => page.clone().run(operation),
+            None => Err(Self::no_hall(hall)),
+        }
     }
 
     pub fn run(&mut self, hall: u8, operation: Operation) -> Answer<P> {
         match self.pages.get_mut(usize::from(hall)) {
             Some(page) => page.run(operation),
-            None => Err(Fault {
-                cause: P::NO_SUCH_HALL,
-                place: u16::from(hall),
-            }),
+            None => Err(Self::no_hall(hall)),
+        }
+    }
+
+    fn no_hall(hall: u8) -> Fault<P::Cause> {
+        Fault {
+            cause: P::NO_SUCH_HALL,
+            place: u16::from(hall),
         }
     }
 }
