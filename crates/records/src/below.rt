@@ -4,11 +4,14 @@ ghost use Rattle.records.specs.Below.{below};
 
 use std::marker::Model;
 
-// A number below N. A contract sees the number itself.
+// A number below N, kept in 16 bits, since tables of them are copied. A contract sees the number itself.
 #[derive(Clone, Copy, Debug, PartialEq, Eq, Hash)]
 pub struct Below<const N: usize> {
-    number: usize,
+    number: u16,
 }
+
+// So many numbers there are of 16 bits.
+const MOST: usize = 65536;
 
 impl<const N: usize> Model for Below<N> {
     ghost Value = { ℕ };
@@ -21,12 +24,14 @@ impl<const N: usize> Model for Below<N> {
 }
 
 impl<const N: usize> Below<N> {
-    // The number, where it is below N.
+    // The number, where it is below N; no number above 65,535 is.
     pub fn new(number: usize) -> Option<Below<N>>
         ensures { result ≡ below N number }
     {
-        if number < N {
-            Some(Below { number })
+        if number < N.min(MOST) {
+            Some(Below {
+                number: number as u16,
+            })
         } else {
             None
         }
@@ -36,6 +41,6 @@ impl<const N: usize> Below<N> {
         ensures value { result ≡ self.entry }
         ensures in_range { result < N }
     {
-        self.number
+        self.number as usize
     }
 }
