@@ -1,4 +1,4 @@
-// Where everything stands. Sums that no picture reaches stop at the greatest number.
+// Where everything stands. Sums that no picture reaches stop at the largest number.
 use crate::texts::{CallText, Row, ToldText};
 use order::{Call, Said};
 use picture::Party;
