@@ -1,13 +1,10 @@
--- Sets of keys as numbers, bit k for key k.
+-- Which keys a set of keys has.
 use Rattle.std.proofs.Common.{◌≡◌, ℕ, zero, suc, ◌^◌, ◌<◌, Bool, true, ◌&&◌, eqb, refl, ap, arith}
 use Rattle.std.specs.Int.{bit_at}
 use Rattle.std.specs.Int.Bits.{bit_and}
+use Rattle.book.specs.Keys.{Held}
 use Rattle.std.proofs.lemmas.Nat.Bits.{bit_at-zero, bit_at_and, bit_at-pow_same}
 use Rattle.std.proofs.lemmas.Bool.Decides.{Decides-eqb, Decides-below_and}
-
--- key k is in the set
-pub record Held (keys k : ℕ) : Type 0 where
-  pub bit : bit_at keys k ≡ 1
 
 -- of two sets with no key in common only one has a key
 pub held_once : (x y k : ℕ) → bit_and x y ≡ 0 → Held x k → Held y k → ⊥

@@ -1,5 +1,6 @@
 pub mod Model
 pub mod Apart
+pub mod Keys
 pub mod Below
 pub mod Sheets
 pub mod Numbers

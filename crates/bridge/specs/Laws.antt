@@ -2,7 +2,8 @@
 use Rattle.std.specs.Prelude.{◌≡◌, ℕ, ◌+◌, ◌-◌, ◌*◌, ◌^◌, ◌<◌, ◌≤◌, true, false, cond, not, ◌&&◌, ◌||◌, length, ℤ, pos, Ok, Err, Result, Some, None, ◌==◌, int_lt, nat_le, nat_lt, refl}
 use Rattle.std.proofs.Common.{length-set, sym, ap, ap₂, subst, ◌∙◌, arith}
 use Rattle.book.proofs.Below.{sum_bound, sum_same, sum_zero, sum_without, length-table, table_all, length-rows, get_or-rows}
-use Rattle.book.proofs.Keys.{Held, held_one, held_below}
+use Rattle.book.proofs.Keys.{held_one, held_below}
+use Rattle.book.specs.Keys.{Held}
 use Rattle.book.specs.Model.{Page}
 use Rattle.book.specs.Numbers.{at}
 use Rattle.book.specs.Below.{sum_below}

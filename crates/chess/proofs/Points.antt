@@ -21,7 +21,7 @@ use Rattle.rounds.specs.Faults.{answered}
 use Rattle.rounds.specs.Kept.{Sized}
 use Rattle.rounds.specs.Sheets.{cell, used_at, settled_at, closable, gain_at, gained, closed, says, changed, said, left, made, answer, after}
 use Rattle.rounds.specs.Sizes.{sized_after, sized_blank}
-use Rattle.rounds.specs.Totals.{get_or-replicate_same}
+use Rattle.book.proofs.Tables.{get_or-replicate_same}
 use Rattle.rounds.specs.declared.Fault.{Fault}
 use Rattle.rounds.specs.declared.Fault.TheVariants.{NoParty, NotClosable, UnknownKind}
 use Rattle.rounds.specs.declared.asks.Ask.{Ask}

@@ -1,7 +1,8 @@
 -- What the book of chess shows of its boards, so that it keeps the law of books.
 use Rattle.std.specs.Prelude.{◌≡◌, ℕ, ◌+◌, ◌<◌, ◌≤◌, ◌^◌, ◌-◌, true, false, cond, not, ◌&&◌, length, pos, Some, None, Ok, Err, Option, ◌==◌, is_some, nat_le, refl}
 use Rattle.std.proofs.Common.{ap, ap₂, sym, subst, ◌∙◌, arith}
-use Rattle.book.proofs.Keys.{Held, held_one, held_below}
+use Rattle.book.proofs.Keys.{held_one, held_below}
+use Rattle.book.specs.Keys.{Held}
 use Rattle.book.specs.Model.{Page}
 use Rattle.book.specs.Numbers.{natural, at}
 use Rattle.chess.specs.Asking.{Asked, player, outcome, seating, at_board, of_board, of_cell, asked, keys_of, keys}

@@ -49,6 +49,7 @@ impl Congress {
     }
 
     // Begins anew with 1 to 8 halls: no message is in the post, no console has issued anything.
+    #[tactic(auto, unfolding(crate::specs::State::new_hall, crate::specs::State::new_halls, crate::specs::State::new_consoles))]
     pub fn open(&mut self, number: u8) -> Result<(), Refusal>
         ensures step { (result, state self.new) ≡ open_step (state self.old) number }
         ensures refused { Untouched result (state self.old) (state self.new) }
@@ -56,8 +57,12 @@ impl Congress {
         if !(1..=8).contains(&number) {
             return Err(Refusal::BadHalls);
         }
-        *self = Congress::new();
         self.opened = number;
+        self.halls = [Hall::default(); 8];
+        self.consoles = [Console::default(); 16];
+        // no entry waits: what stood in the queue's places is left there
+        self.waiting = 0;
+        self.count = 0;
         Ok(())
     }
 

@@ -4,7 +4,8 @@ use Rattle.std.specs.Int.Bits.{and_zero_l}
 use Rattle.std.proofs.lemmas.Nat.{and_assoc, and_comm, and_or_self}
 use Rattle.std.proofs.lemmas.Nat.Bits.{bit_at_or}
 use Rattle.std.proofs.Common.{sym, ap, subst, ◌∙◌, arith}
-use Rattle.book.proofs.Keys.{Held, held_one}
+use Rattle.book.proofs.Keys.{held_one}
+use Rattle.book.specs.Keys.{Held}
 use Rattle.book.specs.Model.{Model, Disjoint}
 use Rattle.records.specs.declared.Operation.{Operation}
 use Rattle.roll.specs.Admitted.{AtEntry, write_at, read_at, below_not_own}

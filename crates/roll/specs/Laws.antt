@@ -4,7 +4,8 @@ use Rattle.std.proofs.lemmas.Nat.{and_comm}
 use Rattle.std.proofs.Common.{length-set, get_or-set_other, inl, inr, sym, ap, subst, ◌∙◌, arith}
 use Rattle.std.proofs.lemmas.List.{set_comm}
 use Rattle.book.proofs.Below.{length-table}
-use Rattle.book.proofs.Keys.{Held, held_once}
+use Rattle.book.proofs.Keys.{held_once}
+use Rattle.book.specs.Keys.{Held}
 use Rattle.book.specs.Model.{Page, Model, Disjoint, Lawful}
 use Rattle.book.specs.Numbers.{natural, at}
 use Rattle.records.specs.Answers.{Shaped, done_with, well_done}

@@ -2,9 +2,9 @@
 use Rattle.std.specs.Prelude.{◌≡◌, ℕ, ◌+◌, ◌*◌, ◌<◌, List, length, set, replicate, ◌≢◌, slice_index, slice_set, refl}
 use Rattle.std.proofs.Common.{length-set, get_or-set_same, get_or-set_other, inl, inr, sym, ap, ◌∙◌, arith}
 use Rattle.book.proofs.Below.{length-table, get_or-table, table_all}
+use Rattle.book.proofs.Tables.{get_or-replicate_same}
 use Rattle.roll.specs.Roll.{entry, hall_tokens, first_tokens}
 use Rattle.std.proofs.lemmas.Bool.{cases_eq}
-use Rattle.std.proofs.lemmas.List.{get_or-replicate}
 
 module _ (all : List ℕ) (h : ℕ) where
   pub length_hall : length (hall_tokens all h) ≡ 16
@@ -36,9 +36,9 @@ module _ (all : List ℕ) (hall a v : ℕ) (low : a < 16) (inside : hall * 16 + 
       hall_is (slice_set all (hall * 16 + a) v) h (hall_tokens all h) (length_hall all h) (λ g l.
       get_or-set_other all (hall * 16 + a) (h * 16 + g) v 0 (omega arith) ∙ sym (entry_hall all h g l))
 
-pub hall_zeros : (h : ℕ) → h < 8 → hall_tokens (replicate 128 0) h ≡ replicate 16 0
-hall_zeros h l =
-    hall_is (replicate 128 0) h (replicate 16 0) refl (λ g m. get_or-replicate 128 (h * 16 + g) 0 0 (omega arith) ∙ sym (get_or-replicate 16 g 0 0 m))
+pub hall_zeros : (n h : ℕ) → hall_tokens (replicate n 0) h ≡ replicate 16 0
+hall_zeros n h =
+    hall_is (replicate n 0) h (replicate 16 0) refl (λ g l. get_or-replicate_same n (h * 16 + g) 0 ∙ sym (get_or-replicate_same 16 g 0))
 
 -- the chief's token, put at a hall with no tokens
 pub first_here : (tokens empty : List ℕ) (chief : ℕ) → empty ≡ replicate 16 0 → tokens ≡ slice_set empty 0 chief → tokens ≡ first_tokens chief

@@ -1,6 +1,6 @@
 -- What a game has to show of its cells.
 use Rattle.std.specs.Prelude.{◌≡◌, ℕ, ◌+◌, ◌*◌, ◌<◌, ◌≤◌, true, false, length, Ok, Err, Result}
-use Rattle.book.proofs.Keys.{Held}
+use Rattle.book.specs.Keys.{Held}
 use Rattle.book.specs.Model.{Page}
 use Rattle.book.specs.Numbers.{at}
 use Rattle.records.specs.declared.Operation.{Operation}

@@ -1,7 +1,8 @@
 -- The keys of an operation guard the parts that it reads and writes.
 use Rattle.std.specs.Prelude.{◌≡◌, ℕ, ◌<◌, true, false, cond, not, Ok, Err, Result, ◌==◌, ◌≢◌, nat_lt}
 use Rattle.std.proofs.Common.{inl, inr, sym, subst, arith}
-use Rattle.book.proofs.Keys.{Held, held_once}
+use Rattle.book.proofs.Keys.{held_once}
+use Rattle.book.specs.Keys.{Held}
 use Rattle.book.specs.Model.{Disjoint}
 use Rattle.records.specs.declared.Operation.{Operation}
 use Rattle.rounds.specs.Fits.{Covers, Fits}

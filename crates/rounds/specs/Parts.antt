@@ -10,7 +10,7 @@ use Rattle.rounds.specs.declared.Fault.{Fault}
 use Rattle.rounds.specs.declared.asks.Ask.{Ask}
 use Rattle.rounds.specs.declared.asks.Ask.TheVariants.{Cell, Close, Total}
 use Rattle.rounds.specs.declared.sheets.Sheet.{Sheet}
-use Rattle.std.proofs.lemmas.List.{same_lists, get_or_default}
+use Rattle.std.proofs.lemmas.List.{same_lists, get_or_default, set-get_or}
 use Rattle.std.proofs.lemmas.Bool.{cond-true, cond-false, lt-ltb, le-ltb, eq-eqb, eqb-true, eqb-false, or_left, or_right, true≢false, false≢true}
 
 -- a cell's part, or the round with the totals
@@ -146,3 +146,27 @@ module _ {C A : Type 0} {cells totals : ℕ} (g : Game C A cells totals) where
     pub makes : (keys : ℕ) (x : Result (Ask A cells totals) Fault) → Covers keys x → Alike x → (k : ℕ) → writes x k ≡ true → part (made g s x) k ≡ part (made g t x) k
     makes keys (Ok ask) w same k e = ap (λ r. part (left g s ask r) k) (says_same keys ask w same) ∙ left_same keys ask (says g t ask) w same k e
     makes keys (Err fault) w same k e = absurd (false≢true e)
+
+    -- what is asked of a cell and looks at no round goes by that cell alone, in the answer and in what it makes of the cell
+    module _ (a : ℕ) (ask : A) (no_round : (x : C) (r q : ℕ) → g.says x r ask ≡ g.says x q ask) (same : cell g s a ≡ cell g t a) where
+      pub cell_answers : says g s (Cell a ask) ≡ says g t (Cell a ask)
+      cell_answers = ap (λ x. g.says x s.round ask) same ∙ no_round (cell g t a) s.round t.round
+
+      cell_left : (r : Result ℤ Fault) → a < cells → part (left g s (Cell a ask) r) a ≡ part (left g t (Cell a ask) r) a
+      cell_left (Ok value) l = put_same a a (g.changed (cell g s a) ask) (g.changed (cell g t a) ask) l (eq-eqb a a refl) (ap (λ x. g.changed x ask) same)
+      cell_left (Err fault) l = part_cell s a l ∙ ap one same ∙ sym (part_cell t a l)
+
+      pub cell_makes : a < cells → part (made g s (Ok (Cell a ask))) a ≡ part (made g t (Ok (Cell a ask))) a
+      cell_makes l = ap (λ r. part (left g s (Cell a ask) r) a) cell_answers ∙ cell_left (says g t (Cell a ask)) l
+
+  -- what changes no cell leaves the sheet
+  reading_changes : (s : Sheet C cells totals) (a : ℕ) (ask : A) → g.changed (cell g s a) ask ≡ cell g s a → changed g s (Cell a ask) ≡ s
+  reading_changes s a ask idle =
+      ap (with_cell g s a) idle ∙ ap (λ xs. record { round = s.round; cells = xs; totals = s.totals }) (set-get_or s.cells a g.empty)
+
+  reading_left : (s : Sheet C cells totals) (a : ℕ) (ask : A) (r : Result ℤ Fault) → g.changed (cell g s a) ask ≡ cell g s a → left g s (Cell a ask) r ≡ s
+  reading_left s a ask (Ok value) idle = reading_changes s a ask idle
+  reading_left s a ask (Err fault) idle = refl
+
+  pub reading_leaves : (s : Sheet C cells totals) (a : ℕ) (ask : A) → g.changed (cell g s a) ask ≡ cell g s a → made g s (Ok (Cell a ask)) ≡ s
+  reading_leaves s a ask idle = reading_left s a ask (says g s (Cell a ask)) idle

@@ -1,6 +1,7 @@
 -- Totals stay small.
-use Rattle.std.proofs.Common.{◌≡◌, ℕ, zero, suc, ◌+◌, ◌≤◌, List, length, get_or, replicate, refl, inl, inr, arith}
+use Rattle.std.proofs.Common.{◌≡◌, ℕ, ◌+◌, ◌≤◌, List, length, get_or, replicate, inl, inr, arith}
 use Rattle.book.proofs.Below.{length-table, get_or-table}
+use Rattle.book.proofs.Tables.{get_or-replicate_same}
 use Rattle.rounds.specs.Rounds.{raised, Small}
 use Rattle.std.proofs.lemmas.List.{get_or_past}
 use Rattle.std.proofs.lemmas.Bool.{cases_lt}
@@ -14,11 +15,6 @@ small_raised round totals gain few h = λ i.
       | inl l ↦ omega (arith, get_or-table (length totals) (λ k. get_or totals k 0 + gain k) i 0 l, h i, few i)
       | inr l ↦ omega (arith, get_or_past (raised totals gain) i 0 (omega (arith, length-raised totals gain)))
     ]
-
-pub get_or-replicate_same : {X : Type 0} (n h : ℕ) (x : X) → get_or (replicate n x) h x ≡ x
-get_or-replicate_same zero h x = refl
-get_or-replicate_same (suc n) zero x = refl
-get_or-replicate_same (suc n) (suc h) x = get_or-replicate_same n h x
 
 pub small_zeros : (round n : ℕ) → Small round (replicate n 0)
 small_zeros round n i = omega (arith, get_or-replicate_same {X = ℕ} n i 0)

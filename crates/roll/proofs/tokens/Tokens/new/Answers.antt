@@ -5,7 +5,7 @@ use Rattle.roll.specs.Roll.{hall_tokens}
 use Rattle.std.proofs.lemmas.Bool.{cases_eq}
 
 pub loop-hall-init : goal.loop-hall-init
-loop-hall-init c = (refl, λ h l. absurd (omega arith), λ h _ m. hall_zeros h m)
+loop-hall-init c = (refl, λ h l. absurd (omega arith), λ h _ m. hall_zeros 128 h)
 
 pub loop-hall-preserved : goal.loop-hall-preserved
 loop-hall-preserved c =
