@@ -37,13 +37,19 @@ fn ask_score(op: Operation) -> Result<Ask, Fault>
 {
     let deal = below_or(op.a, Fault::NoPlace)?;
     let north_south = below_or(op.b, Fault::NoParty)?;
-    let pair = below_or(op.d, Fault::NoParty)?;
+    let pair = below_or::<PAIRS>(op.d, Fault::NoParty)?;
     if !is_fair(op.c) {
         return Err(Fault::BadResult);
     }
     Ok(Ask::Cell(
         deal,
-        DealAsk::Score(north_south, Entry { pair, score: op.c }),
+        DealAsk::Score(
+            north_south,
+            Entry {
+                pair: pair.get() as u8,
+                score: op.c,
+            },
+        ),
     ))
 }
 
