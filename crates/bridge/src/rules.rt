@@ -87,14 +87,19 @@ impl Cell<DEALS, TOTALS> for Deal {
 
     fn say(&self, _current: u16, ask: DealAsk) -> Result<i32, Fault> {
         match ask {
-            DealAsk::Score(b, entry) => self.say_to_score(b.get(), usize::from(entry.pair)),
+            DealAsk::Score(b, pair, _) => self.say_to_score(b.get(), pair.get()),
             DealAsk::Read(b) => say_to_read(self.line(b.get())),
         }
     }
 
     fn change(&mut self, ask: DealAsk) {
         match ask {
-            DealAsk::Score(b, entry) => self.lines[b.get()] = Some(entry),
+            DealAsk::Score(b, pair, score) => {
+                self.lines[b.get()] = Some(Entry {
+                    pair: pair.get() as u8,
+                    score,
+                })
+            }
             DealAsk::Read(_) => {}
         }
     }

@@ -16,8 +16,8 @@ pub enum Side {
 // What a North-South pair scored on a deal, and against which East-West pair.
 #[derive(Clone, Copy, Debug, PartialEq, Eq, Hash)]
 pub struct Entry {
-    // a plain number, though it is below 8: whoever makes a book of bridge and hands it on by value, as to a roll, is not
-    // proved by today's check where the lines have a number with an invariant of its own (tried)
+    // no `Below`: who makes a book of bridge and hands it on by value, as to a roll, is not proved where its lines have a
+    // type with an invariant (tried)
     pub pair: u8,
     pub score: i32,
 }
