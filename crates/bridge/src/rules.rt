@@ -96,7 +96,7 @@ impl Cell<DEALS, TOTALS> for Deal {
         match ask {
             DealAsk::Score(b, pair, score) => {
                 self.lines[b.get()] = Some(Entry {
-                    pair: pair.get() as u8,
+                    pair: pair.get() as u16,
                     score,
                 })
             }

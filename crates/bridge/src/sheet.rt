@@ -18,7 +18,7 @@ pub enum Side {
 pub struct Entry {
     // no `Below`: who makes a book of bridge and hands it on by value, as to a roll, is not proved where its lines have a
     // type with an invariant (tried)
-    pub pair: u8,
+    pub pair: u16,
     pub score: i32,
 }
 
