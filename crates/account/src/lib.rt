@@ -24,19 +24,16 @@ fn score_in<B: Book + Drop>(rt: &HostRuntime, mut book: B, text: &[u8]) -> io::R
     print_account(rt, &scored, list.as_slice())
 }
 
-// Scores a sheet in the book that `new` makes, under a roll where the sheet has a chief. The book is made here and not by
-// the caller, since the borrow checker does not find the type bridge::sheet::Entry in this crate.
-fn score_under<B: Book + Drop, N: FnOnce() -> B>(
+// Scores a sheet in a book, under a roll where the sheet has a chief.
+fn score_under<B: Book + Drop>(
     rt: &HostRuntime,
     chief: Option<u32>,
-    new: N,
+    book: B,
     text: &[u8],
-) -> io::Result<()>
-    requires { N.IsAlwaysCallable new }
-{
+) -> io::Result<()> {
     match chief {
-        None => score_in(rt, new(), text),
-        Some(chief) => score_in(rt, Roll::new(chief, new()), text),
+        None => score_in(rt, book, text),
+        Some(chief) => score_in(rt, Roll::new(chief, book), text),
     }
 }
 
@@ -45,7 +42,7 @@ pub fn score_input(rt: &HostRuntime) -> io::Result<()> {
     rt.stdin().read_to_end(&mut text)?;
     let at = headings_of(text.as_slice());
     match at.game {
-        Game::Chess => score_under(rt, at.chief, Chess::new, text.as_slice()),
-        Game::Bridge => score_under(rt, at.chief, Bridge::new, text.as_slice()),
+        Game::Chess => score_under(rt, at.chief, Chess::new(), text.as_slice()),
+        Game::Bridge => score_under(rt, at.chief, Bridge::new(), text.as_slice()),
     }
 }

@@ -23,7 +23,7 @@ abbrev pub asked_score : Operation → Result Ask Fault
 asked_score o =
     cond (nat_le o.a 15)
     (cond (nat_le o.b 7 && nat_le o.d 7)
-    (cond (fair o.c) (Ok (Cell o.a (Score o.b (record { pair = o.d; score = o.c })))) (Err BadResult))
+    (cond (fair o.c) (Ok (Cell o.a (Score o.b o.d o.c))) (Err BadResult))
     (Err NoParty))
     (Err NoPlace)
 

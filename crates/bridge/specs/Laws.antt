@@ -150,7 +150,7 @@ module _ (p : Page) (i : ℕ) (d : Deal) (same : (j : ℕ) → j < 24 → at p (
   deal_again long = ap (λ lines. record { lines = lines }) (sym (table_all 8 (λ b. read_line p (i + 3 * b)) d.lines None long (λ b hb. sym (line_read b hb))))
 
 sized_changed : (d : Deal) (ask : DealAsk) → sized d ≡ true → sized (changed d ask) ≡ true
-sized_changed d (Score b x) h = ap (λ n. n == 8) (length-set d.lines b (Some x)) ∙ h
+sized_changed d (Score b e c) h = ap (λ n. n == 8) (length-set d.lines b (Some (record { pair = e; score = c }))) ∙ h
 sized_changed d (Read b) h = h
 
 pub bridge_fits : Fits 2 bridge

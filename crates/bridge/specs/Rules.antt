@@ -24,12 +24,12 @@ read_says (Some x) = Ok x.score
 
 -- The value of what is well done on a deal, or why it is not done; the round is all one to it.
 abbrev pub says : Deal → ℕ → DealAsk → Result ℤ Fault
-says d round (Score b x) = score_says d b x.pair
+says d round (Score b e c) = score_says d b e
 says d round (Read b) = read_says (line d b)
 
 -- What an operation that is well done makes of the deal.
 abbrev pub changed : Deal → DealAsk → Deal
-changed d (Score b x) = with_line d b (Some x)
+changed d (Score b e c) = with_line d b (Some (record { pair = e; score = c }))
 changed d (Read b) = d
 
 -- Closing a round: some deal is scored, and no deal has one line alone.

@@ -3,7 +3,7 @@ ghost use Rattle.std.specs.Prelude.{◌≡◌};
 ghost use Rattle.bridge.specs.Asking.{fair, asked_score, asked_line, asked, keys as keys_needed};
 
 use super::kinds::Kind;
-use super::sheet::{DEALS, Entry, PAIRS, TOTALS};
+use super::sheet::{DEALS, PAIRS, TOTALS};
 use records::{Below, Operation};
 use rounds::{Fault, below_or};
 
@@ -16,8 +16,8 @@ const STEP: u32 = 10;
 // What is asked of a deal.
 #[derive(Clone, Copy, Debug, PartialEq, Eq, Hash)]
 pub enum DealAsk {
-    // North-South pair, and its line
-    Score(Below<PAIRS>, Entry),
+    // North-South pair, the East-West pair against which it plays, and the score
+    Score(Below<PAIRS>, Below<PAIRS>, i32),
     // North-South pair
     Read(Below<PAIRS>),
 }
@@ -37,14 +37,11 @@ fn ask_score(op: Operation) -> Result<Ask, Fault>
 {
     let deal = below_or(op.a, Fault::NoPlace)?;
     let north_south = below_or(op.b, Fault::NoParty)?;
-    let pair = below_or(op.d, Fault::NoParty)?;
+    let east_west = below_or(op.d, Fault::NoParty)?;
     if !is_fair(op.c) {
         return Err(Fault::BadResult);
     }
-    Ok(Ask::Cell(
-        deal,
-        DealAsk::Score(north_south, Entry { pair, score: op.c }),
-    ))
+    Ok(Ask::Cell(deal, DealAsk::Score(north_south, east_west, op.c)))
 }
 
 fn ask_line(op: Operation) -> Result<Ask, Fault>

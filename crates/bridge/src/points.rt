@@ -38,7 +38,7 @@ impl Side {
 fn has_pair(line: Option<Entry>, pair: usize) -> bool
     ensures { result ≡ has_pair pair line }
 {
-    line.is_some_and(|entry| entry.pair.get() == pair)
+    line.is_some_and(|entry| usize::from(entry.pair) == pair)
 }
 
 impl Deal {

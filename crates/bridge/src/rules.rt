@@ -34,7 +34,7 @@ fn line_numbers(line: Option<Entry>) -> [i64; LINE_WIDTH]
     ensures { result ≡ line_numbers line }
 {
     match line {
-        Some(entry) => [1, entry.pair.get() as i64, i64::from(entry.score)],
+        Some(entry) => [1, i64::from(entry.pair), i64::from(entry.score)],
         None => [0; LINE_WIDTH],
     }
 }
@@ -87,14 +87,19 @@ impl Cell<DEALS, TOTALS> for Deal {
 
     fn say(&self, _current: u16, ask: DealAsk) -> Result<i32, Fault> {
         match ask {
-            DealAsk::Score(b, entry) => self.say_to_score(b.get(), entry.pair.get()),
+            DealAsk::Score(b, pair, _) => self.say_to_score(b.get(), pair.get()),
             DealAsk::Read(b) => say_to_read(self.line(b.get())),
         }
     }
 
     fn change(&mut self, ask: DealAsk) {
         match ask {
-            DealAsk::Score(b, entry) => self.lines[b.get()] = Some(entry),
+            DealAsk::Score(b, pair, score) => {
+                self.lines[b.get()] = Some(Entry {
+                    pair: pair.get() as u16,
+                    score,
+                })
+            }
             DealAsk::Read(_) => {}
         }
     }

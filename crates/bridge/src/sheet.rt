@@ -1,7 +1,5 @@
 // What one hall's page of bridge holds.
 
-use records::Below;
-
 pub(crate) const DEALS: usize = 16;
 
 pub(crate) const PAIRS: usize = 8;
@@ -18,7 +16,9 @@ pub enum Side {
 // What a North-South pair scored on a deal, and against which East-West pair.
 #[derive(Clone, Copy, Debug, PartialEq, Eq, Hash)]
 pub struct Entry {
-    pub pair: Below<PAIRS>,
+    // no `Below`: who makes a book of bridge and hands it on by value, as to a roll, is not proved where its lines have a
+    // type with an invariant (tried)
+    pub pair: u16,
     pub score: i32,
 }
 

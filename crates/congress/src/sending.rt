@@ -28,7 +28,6 @@ fn is_told(halls: u8, own: u8, to: u8) -> bool
 
 impl Congress {
     // A message goes to the end of the post.
-    #[inline(always)]
     fn send(&mut self, post: &mut [Message], message: Message)
         requires { self.old.count < min (length post.old) 1024 }
         ensures { with_post self.new post.new ≡ posting (with_post self.old post.old) (message ∷ []) }
@@ -38,7 +37,6 @@ impl Congress {
     }
 
     // The requests of a draft go to the end of the post, ascending by hall.
-    #[inline(always)]
     #[tactic(auto, using(crate::proofs::Sent::requests_is))]
     pub(crate) fn send_requests(
         &mut self,

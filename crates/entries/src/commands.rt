@@ -68,7 +68,9 @@ fn opening_of(word: &[u8]) -> Option<Opening>
     }
 }
 
-// What a line with this first word says. Headings come before the first entry.
+// What a line with this first word says. Headings come before the first entry. Not inlined, so that a line that says
+// nothing does not pay for what the others need.
+#[inline(never)]
 pub fn line_after(first: &[u8], rest: &[u8], at: Progress) -> Result<Reading, Misread>
     ensures { result ≡ line_says at (opening first.now) rest.now }
 {

@@ -106,8 +106,7 @@ fn measure<B: Book + Drop>(
     true
 }
 
-// And over a new book with this part at each hall. The book is made here and not by the exports, since there the borrow
-// checker does not find the types within it.
+// And over a new book with this part at each hall.
 pub(crate) fn measure_new<H: Hall + Copy>(
     chief: u32,
     parts: &[PartsRow],

@@ -89,25 +89,12 @@ fn rehearse_over<B: Book + Drop>(
     }
 }
 
-// Makes the calls of a script over a roll on the book that `new` makes. The book is made here and not by the caller, since
-// the borrow checker does not find the type bridge::sheet::Entry in this crate.
-fn rehearse_on<B: Book + Drop, N: FnOnce() -> B>(
-    rt: &HostRuntime,
-    form: Form,
-    script: &Script,
-    new: N,
-) -> io::Result<()>
-    requires { N.IsAlwaysCallable new }
-{
-    rehearse_over(rt, form, script, Roll::new(script.at.chief, new()))
-}
-
 // Makes the calls of one script.
 fn rehearse_text(rt: &HostRuntime, form: Form, text: &[u8]) -> io::Result<()> {
     let script = read_script(rt.alloc(), text)?;
     match script.at.game {
-        Game::Chess => rehearse_on(rt, form, &script, Chess::new),
-        Game::Bridge => rehearse_on(rt, form, &script, Bridge::new),
+        Game::Chess => rehearse_over(rt, form, &script, Roll::new(script.at.chief, Chess::new())),
+        Game::Bridge => rehearse_over(rt, form, &script, Roll::new(script.at.chief, Bridge::new())),
     }
 }
 
